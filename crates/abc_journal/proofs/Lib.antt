@@ -1,0 +1,6 @@
+mod Rows
+pub mod Follow
+pub mod Image
+mod Append
+mod Bytes
+mod Begin

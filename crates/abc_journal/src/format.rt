@@ -1,0 +1,30 @@
+//! The places and sizes of a store, version 1: a head of 64 bytes, and then regions of records.
+
+/// `ABCSTOR1`, the first eight bytes, as a number.
+pub const MAGIC: u64 = 0x4142_4353_544f_5231;
+
+/// The head has the magic and two slots; the bytes behind these are not read. Regions begin past it.
+pub const HEAD_BYTES: usize = 64;
+
+/// The head and one closed gate.
+pub const FRESH_BYTES: usize = 65;
+
+/// The places of the two slots. A slot is a gate, a generation and the start of a region.
+pub const FIRST_SLOT: usize = 8;
+
+pub const SECOND_SLOT: usize = 25;
+
+/// A gate with this byte is open, with any other it is closed.
+pub const OPEN: u8 = 1;
+
+/// A record is a gate, the length of its payload in eight bytes, and the payload.
+pub const RECORD_EXTRA: usize = 9;
+
+/// The fresh store: slot 0 open with generation 1 and start 64, and a closed gate at 64.
+pub const FRESH_IMAGE: [u8; FRESH_BYTES] = [
+    0x41, 0x42, 0x43, 0x53, 0x54, 0x4f, 0x52, 0x31, // magic
+    1, 0, 0, 0, 0, 0, 0, 0, 1, 0, 0, 0, 0, 0, 0, 0, 64, // slot 0
+    0, 0, 0, 0, 0, 0, 0, 0, 0, 0, 0, 0, 0, 0, 0, 0, 0, // slot 1
+    0, 0, 0, 0, 0, 0, 0, 0, 0, 0, 0, 0, 0, 0, 0, 0, 0, 0, 0, 0, 0, 0, // not read
+    0, // the gate
+];

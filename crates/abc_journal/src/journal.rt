@@ -1,0 +1,157 @@
+//! The journal: what is known of an image that is open, and how a record is added to it.
+ghost use Rattle.std.specs.Prelude.{◌≡◌, ◌≤◌, ◌<◌, ◌↔◌, ◌⊎◌, ◌++◌, true, false, [], ◌∷◌, List, ℕ, length, Ok, Err, IfOk, OnOk, IsErrOf, IsTrue};
+ghost use Rattle.abc_outside.specs.Outside.{Outside, Rose, KeepsButStore};
+ghost use Rattle.abc_outside.specs.Stop.{Leaves, IsQuiet};
+ghost use Rattle.abc_journal.specs.Image.{opened, payloads_of, settled_image};
+ghost use Rattle.abc_journal.specs.Journal.{HasLayout, need_of, after_record, IfNotAStore, IsNotAStore, IsNoFault, IsFull, SaysNeed, BeginsQuiet, IsSame, IsBeforeOrAfter};
+
+use crate::format::{FRESH_BYTES, OPEN};
+use crate::opening::{FRESH, read_image, settle};
+use crate::write::{record_behind_gate, write_through};
+use crate::{AppendFault, BeginFault, Bounds, Layout};
+use abc_num::Text;
+use abc_outside::Host;
+use std::alloc::Global;
+use std::marker::Model;
+
+/// An open store: its layout, the bounds that it was opened with, and whether it may be used.
+#[derive(Drop)]
+pub struct Journal {
+    alloc: Global,
+    layout: Layout,
+    bounds: Bounds,
+    sound: bool,
+}
+
+impl Model for Journal {
+    ghost use Rattle.abc_journal.specs.View.{View};
+
+    ghost Value = { View };
+
+    ghost view = { λ j. record { layout = j.layout; bounds = j.bounds; sound = j.sound } };
+}
+
+impl Journal {
+    /// Opens the store, and gives the payloads of its live region in order. An image of at most 65 bytes
+    /// is made fresh; a longer one is only read.
+    ///
+    /// Errors: `NotAStore` with the place of what is wrong, and `Memory`, which leave the store as it was;
+    /// `StoreFault` where a call of the host failed.
+    pub fn begin<H: Host>(
+        alloc: Global,
+        host: &mut H,
+        b: &Bounds,
+    ) -> Result<(Journal, Vec<Text>), BeginFault>
+        ensures opened { H.tells_image → IfOk result (λ found. opened (H.now host.old).image ≡ Ok (record { layout = found.0.layout; payloads = found.1.items })) }
+        ensures bounds { IfOk result (λ found. found.0.bounds ≡ b.now) }
+        ensures sound { IfOk result (λ found. IsTrue found.0.sound) }
+        ensures layout { H.tells_image → IfOk result (λ found. HasLayout (H.now host.new).image found.0.layout) }
+        ensures image { H.tells_image → OnOk result ((H.now host.new).image ≡ settled_image (H.now host.old).image) }
+
+        ensures refused { H.tells_image → IfNotAStore result (λ at. opened (H.now host.old).image ≡ Err at) }
+        ensures fault { IsErrOf result BeginFault.StoreFault → Rose (H.now host.old).store_faults (H.now host.new).store_faults }
+
+        ensures rest { KeepsButStore (H.now host.old) (H.now host.new) }
+        ensures unchanged { (IsNotAStore result ⊎ IsErrOf result BeginFault.Memory) → (H.now host.new).image ≡ (H.now host.old).image }
+        ensures untouched { (IsNotAStore result ⊎ IsErrOf result BeginFault.Memory)
+            → Leaves H.clock H.stopped host.old host.new (H.stopped host.old (H.clock host.old)) }
+
+        // At every moment of the call, and at its end.
+        ensures stops { H.tells_image → BeginsQuiet H.clock H.stopped host.old (H.now host.old).image
+            → (ps : List (List ℕ)) → payloads_of (H.now host.old).image ≡ Ok ps
+            → Leaves H.clock H.stopped host.old host.new (IsSame ps (H.now host.old).said) }
+        ensures quiet { H.tells_image → BeginsQuiet H.clock H.stopped host.old (H.now host.old).image
+            → IsNoFault result → IsQuiet H.clock H.stopped host.new (H.now host.new).image }
+    {
+        let size = host.size()?;
+        if size <= FRESH_BYTES as u64 {
+            settle(host, size)?;
+            return Ok((Journal::with_layout(alloc, FRESH, *b), Vec::new(alloc)));
+        }
+        let (layout, payloads) = read_image(alloc, host, size)?;
+        Ok((Journal::with_layout(alloc, layout, *b), payloads))
+    }
+
+    // A journal that may be used.
+    fn with_layout(alloc: Global, layout: Layout, bounds: Bounds) -> Journal
+        ensures { result ≡ record { layout = layout; bounds = bounds; sound = true } }
+    {
+        Journal {
+            alloc,
+            layout,
+            bounds,
+            sound: true,
+        }
+    }
+
+    /// Where the live region stands.
+    pub fn layout(&self) -> Layout
+        ensures { result ≡ self.now.layout }
+    {
+        self.layout
+    }
+
+    /// Whether the journal may be used: no call of it answered StoreFault.
+    pub fn sound(&self) -> bool
+        ensures { result ≡ self.now.sound }
+    {
+        self.sound
+    }
+
+    /// Whether a record fits whose payload has so many bytes.
+    pub fn fits(&self, payload: usize) -> bool
+        ensures { IsTrue result ↔ (need_of self.now.layout payload ≤ self.now.bounds.image) }
+    {
+        self.layout.need(payload) <= self.bounds.image as u128
+    }
+
+    /// Adds a record with this payload. Once the answer is Ok, each stop leaves an image that has it. The
+    /// journal is sound.
+    ///
+    /// Errors: `StoreFull` where the image with the record would be longer than the bound, and `Memory`,
+    /// which change nothing; `StoreFault` where a call of the host failed: then the journal isn't sound any
+    /// more, and the store has the record or not, until it is opened again.
+    pub fn append<H: Host>(&mut self, host: &mut H, payload: &[u8]) -> Result<(), AppendFault>
+        requires sound { IsTrue self.old.sound }
+        requires layout { H.tells_image → HasLayout (H.now host.old).image self.old.layout }
+
+        ensures kept { H.tells_image → (ps : List (List ℕ)) → payloads_of (H.now host.old).image ≡ Ok ps
+            → OnOk result (opened (H.now host.new).image ≡ Ok (record { layout = after_record self.old.layout (length payload.now); payloads = ps ++ payload.now ∷ [] })) }
+        ensures moved { OnOk result (self.new.layout ≡ after_record self.old.layout (length payload.now)) }
+        ensures layout { H.tells_image → OnOk result (HasLayout (H.now host.new).image self.new.layout) }
+        ensures durable { H.tells_image → OnOk result (IsQuiet H.clock H.stopped host.new (H.now host.new).image) }
+
+        ensures full { IsFull result ↔ (self.old.bounds.image < need_of self.old.layout (length payload.now)) }
+        ensures need { SaysNeed result (need_of self.old.layout (length payload.now)) self.old.bounds.image }
+        ensures fault { IsErrOf result AppendFault.StoreFault → Rose (H.now host.old).store_faults (H.now host.new).store_faults }
+
+        ensures rest { KeepsButStore (H.now host.old) (H.now host.new) }
+        ensures bounds { self.new.bounds ≡ self.old.bounds }
+        ensures same { (IsErrOf result AppendFault.Memory ⊎ IsFull result) → self.new ≡ self.old }
+        ensures same_host { (IsErrOf result AppendFault.Memory ⊎ IsFull result) → host.new ≡ host.old }
+        ensures sound_after { OnOk result (IsTrue self.new.sound) }
+        ensures unsound { IsErrOf result AppendFault.StoreFault → self.new.sound ≡ false }
+
+        // At every moment of the call.
+        ensures stops { H.tells_image → IsQuiet H.clock H.stopped host.old (H.now host.old).image
+            → (ps : List (List ℕ)) → payloads_of (H.now host.old).image ≡ Ok ps
+            → Leaves H.clock H.stopped host.old host.new (IsBeforeOrAfter ps payload.now (H.now host.old).said) }
+    {
+        let need = self.layout.need(payload.len());
+        if need > self.bounds.image as u128 {
+            return Err(AppendFault::StoreFull {
+                need: u64::try_from(need).unwrap_or(u64::MAX),
+                limit: self.bounds.image,
+            });
+        }
+        let bytes = record_behind_gate(self.alloc, payload)?;
+        // Until both writes are through, the layout may not be the image's.
+        self.sound = false;
+        // The record first, behind a gate that is still closed; then the gate.
+        write_through(host, self.layout.gate + 1, &bytes)?;
+        write_through(host, self.layout.gate, &[OPEN])?;
+        self.layout = self.layout.with_record(payload.len());
+        self.sound = true;
+        Ok(())
+    }
+}

@@ -1,0 +1,134 @@
+//! Opening: a short image is made fresh, a longer one is read.
+ghost use Rattle.std.specs.Prelude.{◌≡◌, ◌≤◌, ◌<◌, ◌⊎◌, [], ◌∷◌, List, ℕ, length, Ok, Err, IfOk, OnOk, OnErr, IsErrOf, IsTrue, ◌↔◌, drop, ◌+◌};
+ghost use Rattle.abc_outside.specs.Outside.{Outside, Rose, KeepsButStore};
+ghost use Rattle.abc_outside.specs.Stop.{Torn, Leaves};
+ghost use Rattle.abc_journal.specs.Image.{fresh_image, opened_at, read_image as reads};
+ghost use Rattle.abc_journal.specs.Journal.{IfNotAStore};
+
+use crate::BeginFault;
+use crate::format::{FRESH_BYTES, FRESH_IMAGE, HEAD_BYTES};
+use crate::layout::{Layout, Live};
+use crate::region::{live_slot, read_region};
+use crate::write::write_through;
+use abc_num::Text;
+use abc_outside::{Failed, Host};
+use std::alloc::Global;
+
+/// The layout of a fresh image.
+pub const FRESH: Layout = Layout {
+    size: FRESH_BYTES as u64,
+    generation: 1,
+    start: HEAD_BYTES as u64,
+    gate: HEAD_BYTES as u64,
+    first: 0,
+    slot: 0,
+    other: false,
+};
+
+// Whether the image, of so many bytes, is the fresh one.
+fn is_fresh<H: Host>(host: &mut H, size: u64) -> Result<bool, Failed>
+    requires size { H.tells_image → size ≡ length (H.now host.old).image }
+    ensures fresh { H.tells_image → IfOk result (λ yes. IsTrue yes ↔ ((H.now host.old).image ≡ fresh_image)) }
+    ensures image { (H.now host.new).image ≡ (H.now host.old).image }
+    ensures rest { KeepsButStore (H.now host.old) (H.now host.new) }
+    ensures stops { Leaves H.clock H.stopped host.old host.new (H.stopped host.old (H.clock host.old)) }
+    ensures now { (c s : List ℕ) → H.stopped host.new (H.clock host.new) c s → H.stopped host.old (H.clock host.old) c s }
+    ensures cause { OnErr result (Rose (H.now host.old).store_faults (H.now host.new).store_faults) }
+{
+    if size != FRESH_BYTES as u64 {
+        return Ok(false);
+    }
+    let mut image = [0; FRESH_BYTES];
+    host.read_at(0, &mut image)?;
+    Ok(image == FRESH_IMAGE)
+}
+
+// Puts the fresh image in place of an image of at most so many bytes, if it isn't there.
+pub fn settle<H: Host>(host: &mut H, size: u64) -> Result<(), Failed>
+    requires short { size ≤ FRESH_BYTES }
+    requires size { H.tells_image → size ≡ length (H.now host.old).image }
+    ensures image { H.tells_image → OnOk result ((H.now host.new).image ≡ fresh_image) }
+    ensures durable { H.tells_image → OnOk result ((c s : List ℕ) → H.stopped host.new (H.clock host.new) c s
+        → (H.stopped host.old (H.clock host.old) c s × ((H.now host.old).image ≡ fresh_image)) ⊎ (c ≡ fresh_image)) }
+    ensures stops { Leaves H.clock H.stopped host.old host.new (λ c s. (d : List ℕ) × H.stopped host.old (H.clock host.old) d s × Torn 0 FRESH_BYTES d c) }
+    ensures rest { KeepsButStore (H.now host.old) (H.now host.new) }
+    ensures cause { OnErr result (Rose (H.now host.old).store_faults (H.now host.new).store_faults) }
+{
+    if is_fresh(host, size)? {
+        return Ok(());
+    }
+    write_through(host, 0, &FRESH_IMAGE)?;
+    Ok(())
+}
+
+// The layout of an image of so many bytes, whose live region has these payloads.
+fn layout_of(size: u64, live: Live, payloads: &[Text], gate: u64) -> Layout
+    ensures { result ≡ (opened_at size live (record { payloads = payloads.now; gate = gate })).layout }
+{
+    let first = match payloads.first() {
+        Some(payload) if live.generation > 1 => payload.bytes().len() as u64,
+        _ => 0,
+    };
+    Layout {
+        size,
+        generation: live.generation,
+        start: live.start,
+        gate,
+        first,
+        slot: live.slot,
+        other: live.other,
+    }
+}
+
+// The bytes of an image of so many bytes, from this place on.
+fn read_from<H: Host>(
+    alloc: Global,
+    host: &mut H,
+    start: u64,
+    size: u64,
+) -> Result<Vec<u8>, BeginFault>
+    requires within { start ≤ size }
+    requires size { H.tells_image → size ≡ length (H.now host.old).image }
+    ensures bytes { H.tells_image → IfOk result (λ bytes. bytes.items ≡ drop start (H.now host.old).image) }
+    ensures count { IfOk result (λ bytes. start + length bytes.items ≡ size) }
+    ensures no_refusal { IfNotAStore result (λ _. ⊥) }
+    ensures image { (H.now host.new).image ≡ (H.now host.old).image }
+    ensures rest { KeepsButStore (H.now host.old) (H.now host.new) }
+    ensures stops { Leaves H.clock H.stopped host.old host.new (H.stopped host.old (H.clock host.old)) }
+    ensures now { (c s : List ℕ) → H.stopped host.new (H.clock host.new) c s → H.stopped host.old (H.clock host.old) c s }
+    ensures fault { IsErrOf result BeginFault.StoreFault → Rose (H.now host.old).store_faults (H.now host.new).store_faults }
+{
+    let mut bytes = vec![in alloc; 0; (size - start) as usize]?;
+    host.read_at(start, &mut bytes)?;
+    Ok(bytes)
+}
+
+// Reads an image of so many bytes: each byte of the head and of the live region once.
+pub fn read_image<H: Host>(
+    alloc: Global,
+    host: &mut H,
+    size: u64,
+) -> Result<(Layout, Vec<Text>), BeginFault>
+    requires long { FRESH_BYTES < size }
+    requires size { H.tells_image → size ≡ length (H.now host.old).image }
+    ensures opened { H.tells_image → IfOk result (λ found. reads (H.now host.old).image ≡ Ok (record { layout = found.0; payloads = found.1.items })) }
+    ensures refused { H.tells_image → IfNotAStore result (λ at. reads (H.now host.old).image ≡ Err at) }
+    ensures image { (H.now host.new).image ≡ (H.now host.old).image }
+    ensures rest { KeepsButStore (H.now host.old) (H.now host.new) }
+    ensures stops { Leaves H.clock H.stopped host.old host.new (H.stopped host.old (H.clock host.old)) }
+    ensures now { (c s : List ℕ) → H.stopped host.new (H.clock host.new) c s → H.stopped host.old (H.clock host.old) c s }
+    ensures fault { IsErrOf result BeginFault.StoreFault → Rose (H.now host.old).store_faults (H.now host.new).store_faults }
+{
+    let mut head = [0; HEAD_BYTES];
+    host.read_at(0, &mut head)?;
+    let live = match live_slot(&head) {
+        Ok(live) => live,
+        Err(at) => return Err(BeginFault::NotAStore { at }),
+    };
+    if live.start < HEAD_BYTES as u64 || size <= live.start {
+        return Err(BeginFault::NotAStore { at: live.start });
+    }
+    let region = read_from(alloc, host, live.start, size)?;
+    let (payloads, gate) = read_region(alloc, &region, live.start)?;
+    Ok((layout_of(size, live, &payloads, gate), payloads))
+}

@@ -1,0 +1,9 @@
+pub mod formers
+pub mod Literal
+pub mod Names
+pub mod Number
+pub mod Operations
+pub mod Ratio
+pub mod Rounding
+pub mod Text
+pub mod Types

@@ -1,0 +1,16 @@
+//! Types without variables.
+use crate::{Boxed, Items};
+
+/// What each value has one of, or several where it is `{}`.
+#[derive(Debug, Drop)]
+pub enum Ground {
+    Number,
+    Text,
+    /// Of two fields or more.
+    Compound(Grounds),
+    List(Boxed<Ground>),
+    /// Of keys and associates.
+    Table(Boxed<Ground>, Boxed<Ground>),
+}
+
+pub type Grounds = Items<Ground>;

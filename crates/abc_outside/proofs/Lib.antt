@@ -1,0 +1,8 @@
+pub mod Leaves
+pub mod Keeps
+pub mod Points
+pub mod Quiet
+mod Tears
+mod Lists
+mod Calls
+mod Rows

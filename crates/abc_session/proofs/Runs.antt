@@ -1,0 +1,73 @@
+-- A run on a store: its opening, and its session.
+use Rattle.std.proofs.Common.{◌≡◌, ℕ, List, inl, sym, ◌∙◌, ap, subst}
+use Rattle.std.specs.Prelude.{Ok}
+use Rattle.abc_outside.specs.Stop.{Leaves, Passes, Extends}
+use Rattle.abc_outside.proofs.Leaves.{weaken, run_after, one_call, at_each}
+use Rattle.abc_outside.proofs.Points.{point_start}
+use Rattle.abc_journal.specs.Image.{settled_image, layout_of, layout_in, opened, read_image}
+use Rattle.abc_journal.specs.Journal.{BeginsQuiet}
+use Rattle.abc_journal.proofs.Image.{settled_twice}
+use Rattle.abc_session.specs.Lines.{Line}
+use Rattle.abc_session.specs.Workspace.{opens}
+use Rattle.abc_session.specs.Session.{Work, replies}
+use Rattle.abc_session.specs.Serving.{OpensTo, Holds, works, IsSessionPoint, IsStill}
+use Rattle.abc_session.proofs.Opening.{opens_extended}
+use Rattle.abc_session.specs.Run.{IsStart}
+
+layout_settled : (image : List ℕ) → layout_of (settled_image image) ≡ layout_of image
+unfolding layout_of opened
+layout_settled image = ap (λ (i : List ℕ). layout_in (read_image i)) (settled_twice image)
+
+-- the work of a store that was opened is the start of its session
+pub starts : (image new : List ℕ) (work : Work) → opens image ≡ Ok work.targets → new ≡ settled_image image → Holds new work → IsStart image work
+starts image new work is settled holds = record { targets = is; layout = sym (layout_settled image) ∙ ap layout_of (sym settled) ∙ holds.layout.is }
+
+pub one_start : (image : List ℕ) (a b : Work) → IsStart image a → IsStart image b → a ≡ b
+one_start image a b p q =
+    let targets : a.targets ≡ b.targets = cc (p.targets, q.targets) in
+    let layout : a.layout ≡ b.layout = cc (p.layout, q.layout) in
+    λ i. record { targets = targets i; layout = layout i }
+
+module _ {H : Type 0} (clock : H → ℕ) (stopped : H → ℕ → List ℕ → List ℕ → Type 0) (old mid : H) (bound : ℕ) (work : Work) (items : List Line) (said : List ℕ) where
+  -- while the store is opened nothing is said
+  pub opening_points : Leaves clock stopped old mid (λ c s. (s ≡ said) × (opens c ≡ Ok work.targets)) → Leaves clock stopped old mid (IsSessionPoint bound 1 work items said)
+  opening_points leaves =
+      weaken clock stopped old mid _ _ leaves (λ c s p. point_start OpensTo (works bound 1 work items) (replies bound 1 work items) said c s p.0 p.1)
+
+  pub session_points : (new : H) (bound_mid : ℕ) (work_mid : Work) (items_mid : List Line) (said_mid : List ℕ) → bound_mid ≡ bound → work_mid ≡ work → items_mid ≡ items → said_mid ≡ said
+      → Leaves clock stopped old mid (λ c s. (s ≡ said) × (opens c ≡ Ok work.targets)) → Leaves clock stopped mid new (IsSessionPoint bound_mid 1 work_mid items_mid said_mid)
+      → Leaves clock stopped old new (IsSessionPoint bound 1 work items said)
+  session_points new bound_mid work_mid items_mid said_mid same_bound same_work same_items same_said opening serving =
+      run_after clock stopped old mid new _ _ (opening_points opening) serving
+      (λ c s p. subst (λ b. IsSessionPoint b 1 work items said c s) same_bound (subst (λ w. IsSessionPoint bound_mid 1 w items said c s) same_work
+      (subst (λ ls. IsSessionPoint bound_mid 1 work_mid ls said c s) same_items (subst (λ t. IsSessionPoint bound_mid 1 work_mid items_mid t c s) same_said p))))
+
+module _ {H : Type 0} (clock : H → ℕ) (stopped : H → ℕ → List ℕ → List ℕ → Type 0) (old : H) (image said : List ℕ) (bound : ℕ) (work : Work) (items : List Line)
+    (still : IsStill clock stopped old image) (says : (c s : List ℕ) → stopped old (clock old) c s → s ≡ said) (start : IsStart image work) where
+  -- before anything is done
+  pub still_point : (c s : List ℕ) → stopped old (clock old) c s → IsSessionPoint bound 1 work items said c s
+  still_point c s stop = point_start OpensTo (works bound 1 work items) (replies bound 1 work items) said c s (says c s stop) (ap opens (still c s stop) ∙ start.targets)
+
+  -- after a choice that changes nothing of it
+  pub choice_points : (mid : H) → Passes (clock old) (clock mid) (stopped old) (stopped mid) → ((c s : List ℕ) → stopped mid (clock mid) c s → stopped old (clock old) c s)
+      → (c s : List ℕ) → stopped mid (clock old) c s → IsSessionPoint bound 1 work items said c s
+  choice_points mid time stop = at_each clock stopped old mid _ (one_call clock stopped old mid _ time (λ c s now. still_point c s (stop c s now))) still_point
+
+  -- and a run on the store that was chosen
+  pub run_points : (mid new : H) (image_mid said_mid : List ℕ) (items_mid : List Line) → Passes (clock old) (clock mid) (stopped old) (stopped mid) → ((c s : List ℕ) → stopped mid (clock mid) c s → stopped old (clock old) c s)
+      → items_mid ≡ items → said_mid ≡ said → Leaves clock stopped mid new (IsSessionPoint bound 1 work items_mid said_mid)
+      → (c s : List ℕ) → stopped new (clock old) c s → IsSessionPoint bound 1 work items said c s
+  run_points mid new image_mid said_mid items_mid time stop same_items same_said run =
+      at_each clock stopped old new _
+      (run_after clock stopped old mid new _ _ (one_call clock stopped old mid _ time (λ c s now. still_point c s (stop c s now))) run
+      (λ c s p. subst (λ ls. IsSessionPoint bound 1 work ls said c s) same_items (subst (λ t. IsSessionPoint bound 1 work items_mid t c s) same_said p)))
+      still_point
+
+-- nothing is pending after a choice either
+pub quiet_after : {H : Type 0} (clock : H → ℕ) (stopped : H → ℕ → List ℕ → List ℕ → Type 0) (old mid : H) (image image_mid : List ℕ) → IsStill clock stopped old image → image_mid ≡ image
+    → ((c s : List ℕ) → stopped mid (clock mid) c s → stopped old (clock old) c s) → BeginsQuiet clock stopped mid image_mid
+quiet_after clock stopped old mid image image_mid still same stop c s now = inl (still c s (stop c s now) ∙ sym same)
+
+-- the last work is held, whatever a stop adds behind the image
+pub last_opens : (image c : List ℕ) (work : Work) → Holds image work → Extends image c → opens c ≡ Ok work.targets
+last_opens image c work holds extends = opens_extended image c work.layout work.targets holds.layout holds.opens_to extends

@@ -1,0 +1,78 @@
+use Rattle.std.proofs.Common.{rules, ◌≡◌, ◌<◌, ◌+◌, ◌-◌, ◌++◌, ◌∷◌, ◌∙◌, true, false, [], length, take, nat_lt, sym, ap, refl}
+use Rattle.abc_outside.proofs.Leaves.{run_after}
+use Rattle.abc_session.specs.Lines.{lines_by}
+use Rattle.abc_session.specs.Reading.{shown, pending_of, TookPart}
+use Rattle.abc_session.proofs.Started.{found, went_on, read_on, wants, ends_empty, ends_line, last_found, none_left}
+use Rattle.abc_session.proofs.Asks.{asks_more}
+use Rattle.abc_session.proofs.reader.Reader.next.Goals as goal
+
+pub returns-then-branch-clause-line : goal.returns-then-branch-clause-line
+returns-then-branch-clause-line g c told =
+    let bound = c.args.self.now.bound in
+    let left = (g.H.Host.now c.pieces.host).left in
+    let new = c.take_part.new.self in
+    let line = shown c.take_part.new.line in
+    let part : TookPart (pending_of c.pieces.self) (pending_of new) (shown c.pieces.line) line true = rw c.if-branch.true at c.in_ok-take_part.ensures.part in
+    found (pending_of c.args.self.now) (g.H.Host.now c.args.host.now).left c.args.self.now.taken (shown c.pieces.line) (pending_of c.pieces.self) left c.pieces.self.taken (c.pieces.invariant.started told)
+    (pending_of new) line bound (search rules) part
+    ∙ ap (λ t. line ∷ lines_by (nat_lt (t + length left) bound) (pending_of new ++ take (bound - t) left)) (sym c.in_ok-take_part.ensures.taken)
+    ∙ ap (λ b. line ∷ lines_by (nat_lt (new.taken + length left) b) (pending_of new ++ take (b - new.taken) left)) (sym (c.in_ok-take_part.ensures.bound ∙ c.pieces.invariant.bound))
+
+pub returns-then-self-clause-line : goal.returns-then-self-clause-line
+returns-then-self-clause-line g c told =
+    let bound = c.args.self.now.bound in
+    let left = (g.H.Host.now c.pieces.host).left in
+    let new = c.take_part.new.self in
+    let line = shown c.take_part.new.line in
+    let part : TookPart (pending_of c.pieces.self) (pending_of new) (shown c.pieces.line) line false = rw c.if-branch.false at c.in_ok-take_part.ensures.part in
+    let none = part.rest (search rules) in
+    let s = went_on _ _ _ _ _ _ _ (c.pieces.invariant.started told) (pending_of new) line part in
+    let end : left ≡ [] = search rules in
+    let lt : c.pieces.self.taken < bound = search rules in
+    last_found c.if_any.result c.take_part.new.line _ _ c.if_any.ensures
+    (λ empty. ends_empty _ _ _ _ _ _ _ s bound lt (search rules) end empty) (λ some. ends_line _ _ _ _ _ _ _ s bound lt (search rules) end some)
+    (none_left (pending_of new) left _ _ none end)
+
+pub returns-then-self-2-clause-wants : goal.returns-then-self-2-clause-wants
+returns-then-self-2-clause-wants g c told _ =
+    let part : TookPart (pending_of c.pieces.self) (pending_of c.take_part.new.self) (shown c.pieces.line) (shown c.take_part.new.line) false = rw c.if-branch.false at c.in_ok-take_part.ensures.part in
+    let s = went_on _ _ _ _ _ _ _ (c.pieces.invariant.started told) (pending_of c.take_part.new.self) (shown c.take_part.new.line) part in
+    let w = wants _ _ _ _ _ _ _ s refl in
+    (w.0, c.in_ok-take_part.ensures.taken ∙ w.1, w.2, w.3)
+
+pub pieces-preserved : goal.pieces-preserved
+pieces-preserved g c =
+    let i = c.pieces.invariant in
+    let part : TookPart (pending_of c.pieces.self) (pending_of c.take_part.new.self) (shown c.pieces.line) (shown c.take_part.new.line) false = rw c.if-branch.false at c.in_ok-take_part.ensures.part in
+    let s = λ (told : g.H.Host.tells_input). went_on _ _ _ _ _ _ _ (i.started told) (pending_of c.take_part.new.self) (shown c.take_part.new.line) part in
+    record {
+      counts = search rules;
+      bound = search rules;
+      ended = search rules;
+      used = search rules;
+      short = search rules;
+      started = λ told. read_on _ _ _ _ _ _ _ (s told) (pending_of c.fill.new.self) (g.H.Host.now c.fill.new.host).left c.fill.new.self.taken refl (c.in_ok-fill.ensures.bytes told) (search rules);
+      asked = λ told_said told.
+          let w = wants _ _ _ _ _ _ _ (s told) refl in
+          asks_more (pending_of c.args.self.now) (g.H.Host.now c.args.host.now).left c.args.self.now.taken (length (g.H.Host.now c.args.host.now).said) c.take_part.new.self.taken (length (g.H.Host.now c.pieces.host).said)
+          (g.H.Host.now c.args.host.now).asked (g.H.Host.now c.pieces.host).asked (g.H.Host.now c.fill.new.host).asked (w.0, c.in_ok-take_part.ensures.taken ∙ w.1, w.2, w.3) (ap length i.keeps.said) (i.asked told_said told) (c.fill.ensures.asked told_said);
+      keeps = search rules;
+      stops = run_after g.H.Host.clock g.H.Host.stopped c.args.host.now c.pieces.host c.fill.new.host _ _ i.stops c.fill.ensures.stops i.now;
+      now = λ image said stop. i.now image said (c.fill.ensures.now image said stop);
+    }
+
+pub returns-in_err-fill-clause-wants : goal.returns-in_err-fill-clause-wants
+returns-in_err-fill-clause-wants g c told _ =
+    let part : TookPart (pending_of c.pieces.self) (pending_of c.take_part.new.self) (shown c.pieces.line) (shown c.take_part.new.line) false = rw c.if-branch.false at c.in_ok-take_part.ensures.part in
+    let s = went_on _ _ _ _ _ _ _ (c.pieces.invariant.started told) (pending_of c.take_part.new.self) (shown c.take_part.new.line) part in
+    let w = wants _ _ _ _ _ _ _ s refl in
+    (w.0, c.in_err-fill.ensures.failed ∙ c.in_ok-take_part.ensures.taken ∙ w.1, w.2, w.3)
+
+pub returns-in_err-fill-clause-asked : goal.returns-in_err-fill-clause-asked
+returns-in_err-fill-clause-asked g c told_said told =
+    let i = c.pieces.invariant in
+    let part : TookPart (pending_of c.pieces.self) (pending_of c.take_part.new.self) (shown c.pieces.line) (shown c.take_part.new.line) false = rw c.if-branch.false at c.in_ok-take_part.ensures.part in
+    let s = went_on _ _ _ _ _ _ _ (i.started told) (pending_of c.take_part.new.self) (shown c.take_part.new.line) part in
+    let w = wants _ _ _ _ _ _ _ s refl in
+    asks_more (pending_of c.args.self.now) (g.H.Host.now c.args.host.now).left c.args.self.now.taken (length (g.H.Host.now c.args.host.now).said) c.take_part.new.self.taken (length (g.H.Host.now c.pieces.host).said)
+    (g.H.Host.now c.args.host.now).asked (g.H.Host.now c.pieces.host).asked (g.H.Host.now c.fill.new.host).asked (w.0, c.in_ok-take_part.ensures.taken ∙ w.1, w.2, w.3) (ap length i.keeps.said) (i.asked told_said told) (c.fill.ensures.asked told_said)

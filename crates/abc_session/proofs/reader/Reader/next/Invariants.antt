@@ -1,0 +1,27 @@
+use Rattle.std.proofs.Common.{◌≡◌, ◌≤◌, ◌+◌, ◌-◌, ◌*◌, List, ℕ, [], length, true, cond}
+use Rattle.abc_outside.specs.Outside.{KeepsButInput}
+use Rattle.abc_outside.specs.Stop.{Leaves}
+use Rattle.abc_num.specs.declared.limits.TheConstants.{MOST_LINE_BYTES}
+use Rattle.abc_session.specs.Reading.{shown, pending_of, used_of, IsStarted, AsksMore}
+use Rattle.abc_session.specs.Asking.{Asked}
+use Rattle.abc_session.proofs.reader.Reader.next.Given as goal
+
+abbrev pub invariant-pieces : goal.invariant-pieces
+invariant-pieces g l = record {
+  counts : (g.H.Host.now l.host).taken ≡ l.self.taken;
+  bound : l.self.bound ≡ l.initial.self.bound;
+  ended : g.H.Host.tells_input → l.self.ended ≡ true → (g.H.Host.now l.host).left ≡ [];
+  used : length l.line.text.items + used_of l.initial.self ≤ used_of l.self;
+  short : length l.line.text.items ≤ MOST_LINE_BYTES;
+  started : g.H.Host.tells_input
+      → IsStarted (pending_of l.initial.self) (g.H.Host.now l.initial.host).left l.initial.self.taken (shown l.line) (pending_of l.self) (g.H.Host.now l.host).left l.self.taken;
+  asked : g.H.Host.tells_said → g.H.Host.tells_input
+      → Asked (AsksMore (pending_of l.initial.self) (g.H.Host.now l.initial.host).left l.initial.self.taken (length (g.H.Host.now l.initial.host).said))
+      (g.H.Host.now l.initial.host).asked (g.H.Host.now l.host).asked;
+  keeps : KeepsButInput (g.H.Host.now l.initial.host) (g.H.Host.now l.host);
+  stops : Leaves g.H.Host.clock g.H.Host.stopped l.initial.host l.host (g.H.Host.stopped l.initial.host (g.H.Host.clock l.initial.host));
+  now : (c s : List ℕ) → g.H.Host.stopped l.host (g.H.Host.clock l.host) c s → g.H.Host.stopped l.initial.host (g.H.Host.clock l.initial.host) c s;
+}
+
+abbrev pub decreases-pieces : goal.decreases-pieces
+decreases-pieces g l = 2 * (l.self.bound - l.self.taken) + cond l.self.ended 0 1

@@ -1,0 +1,96 @@
+use Rattle.std.proofs.Common.{◌≡◌, ◌∙◌, ◌++◌, List, ℕ, length, ap, subst, arith}
+use Rattle.abc_journal.specs.declared.layout.Bounds.{Bounds}
+use Rattle.abc_outside.specs.Session.{joined}
+use Rattle.abc_session.specs.Session.{after, replies}
+use Rattle.abc_session.specs.Serving.{work_of, Holds}
+use Rattle.abc_session.specs.Run.{items_in}
+use Rattle.abc_session.proofs.Runs.{starts, one_start, opening_points, session_points}
+use Rattle.abc_session.proofs.running.run_store.Goals as goal
+
+pub returns-in-Err-StoreFault-clause-stops : goal.returns-in-Err-StoreFault-clause-stops
+returns-in-Err-StoreFault-clause-stops g c told told_said told_input quiet work start =
+    opening_points g.H.Host.clock g.H.Host.stopped c.args.host.now c.open.new.host c.args.b.now.image work (items_in c.args.b.now.input (g.H.Host.now c.args.host.now).left) (g.H.Host.now c.args.host.now).said
+    (c.open.ensures.stops told quiet work.targets start.targets)
+
+pub returns-in-Err-Memory-clause-stops : goal.returns-in-Err-Memory-clause-stops
+returns-in-Err-Memory-clause-stops g c told told_said told_input quiet work start =
+    opening_points g.H.Host.clock g.H.Host.stopped c.args.host.now c.open.new.host c.args.b.now.image work (items_in c.args.b.now.input (g.H.Host.now c.args.host.now).left) (g.H.Host.now c.args.host.now).said
+    (c.open.ensures.stops told quiet work.targets start.targets)
+
+pub returns-in-Ok-serve_all-clause-stops : goal.returns-in-Ok-serve_all-clause-stops
+returns-in-Ok-serve_all-clause-stops g c told told_said told_input quiet work start =
+    let image = (g.H.Host.now c.args.host.now).image in
+    let store = work_of c.in-Ok.store in
+    let same : store ≡ work = one_start image store work (starts image (g.H.Host.now c.open.new.host).image store (c.in-Ok.ensures.opened told) (c.in-Ok.ensures.image told) (c.in-Ok.ensures.holds told)) start in
+    session_points g.H.Host.clock g.H.Host.stopped c.args.host.now c.open.new.host c.args.b.now.image work (items_in c.args.b.now.input (g.H.Host.now c.args.host.now).left) (g.H.Host.now c.args.host.now).said
+    c.serve_all.new.host c.in-Ok.store.journal.bounds.image store (items_in c.args.b.now.input (g.H.Host.now c.open.new.host).left) (g.H.Host.now c.open.new.host).said
+    (ap (λ (b : Bounds). b.image) c.in-Ok.ensures.bounds) same (ap (λ (l : List ℕ). items_in c.args.b.now.input l) c.open.ensures.rest.left) c.open.ensures.rest.said
+    (c.open.ensures.stops told quiet work.targets start.targets) (c.serve_all.ensures.stops told told_said told_input (c.in-Ok.ensures.quiet told quiet))
+
+pub returns-in-Err-Input-clause-stops : goal.returns-in-Err-Input-clause-stops
+returns-in-Err-Input-clause-stops g c told told_said told_input quiet work start =
+    let image = (g.H.Host.now c.args.host.now).image in
+    let store = work_of c.in-Ok.store in
+    let same : store ≡ work = one_start image store work (starts image (g.H.Host.now c.open.new.host).image store (c.in-Ok.ensures.opened told) (c.in-Ok.ensures.image told) (c.in-Ok.ensures.holds told)) start in
+    session_points g.H.Host.clock g.H.Host.stopped c.args.host.now c.open.new.host c.args.b.now.image work (items_in c.args.b.now.input (g.H.Host.now c.args.host.now).left) (g.H.Host.now c.args.host.now).said
+    c.serve_all.new.host c.in-Ok.store.journal.bounds.image store (items_in c.args.b.now.input (g.H.Host.now c.open.new.host).left) (g.H.Host.now c.open.new.host).said
+    (ap (λ (b : Bounds). b.image) c.in-Ok.ensures.bounds) same (ap (λ (l : List ℕ). items_in c.args.b.now.input l) c.open.ensures.rest.left) c.open.ensures.rest.said
+    (c.open.ensures.stops told quiet work.targets start.targets) (c.serve_all.ensures.stops told told_said told_input (c.in-Ok.ensures.quiet told quiet))
+
+pub returns-in-Err-StoreFault-serve_all-clause-stops : goal.returns-in-Err-StoreFault-serve_all-clause-stops
+returns-in-Err-StoreFault-serve_all-clause-stops g c told told_said told_input quiet work start =
+    let image = (g.H.Host.now c.args.host.now).image in
+    let store = work_of c.in-Ok.store in
+    let same : store ≡ work = one_start image store work (starts image (g.H.Host.now c.open.new.host).image store (c.in-Ok.ensures.opened told) (c.in-Ok.ensures.image told) (c.in-Ok.ensures.holds told)) start in
+    session_points g.H.Host.clock g.H.Host.stopped c.args.host.now c.open.new.host c.args.b.now.image work (items_in c.args.b.now.input (g.H.Host.now c.args.host.now).left) (g.H.Host.now c.args.host.now).said
+    c.serve_all.new.host c.in-Ok.store.journal.bounds.image store (items_in c.args.b.now.input (g.H.Host.now c.open.new.host).left) (g.H.Host.now c.open.new.host).said
+    (ap (λ (b : Bounds). b.image) c.in-Ok.ensures.bounds) same (ap (λ (l : List ℕ). items_in c.args.b.now.input l) c.open.ensures.rest.left) c.open.ensures.rest.said
+    (c.open.ensures.stops told quiet work.targets start.targets) (c.serve_all.ensures.stops told told_said told_input (c.in-Ok.ensures.quiet told quiet))
+
+pub returns-in-Err-SinkFault-clause-stops : goal.returns-in-Err-SinkFault-clause-stops
+returns-in-Err-SinkFault-clause-stops g c told told_said told_input quiet work start =
+    let image = (g.H.Host.now c.args.host.now).image in
+    let store = work_of c.in-Ok.store in
+    let same : store ≡ work = one_start image store work (starts image (g.H.Host.now c.open.new.host).image store (c.in-Ok.ensures.opened told) (c.in-Ok.ensures.image told) (c.in-Ok.ensures.holds told)) start in
+    session_points g.H.Host.clock g.H.Host.stopped c.args.host.now c.open.new.host c.args.b.now.image work (items_in c.args.b.now.input (g.H.Host.now c.args.host.now).left) (g.H.Host.now c.args.host.now).said
+    c.serve_all.new.host c.in-Ok.store.journal.bounds.image store (items_in c.args.b.now.input (g.H.Host.now c.open.new.host).left) (g.H.Host.now c.open.new.host).said
+    (ap (λ (b : Bounds). b.image) c.in-Ok.ensures.bounds) same (ap (λ (l : List ℕ). items_in c.args.b.now.input l) c.open.ensures.rest.left) c.open.ensures.rest.said
+    (c.open.ensures.stops told quiet work.targets start.targets) (c.serve_all.ensures.stops told told_said told_input (c.in-Ok.ensures.quiet told quiet))
+
+pub returns-in-Err-Memory-serve_all-clause-stops : goal.returns-in-Err-Memory-serve_all-clause-stops
+returns-in-Err-Memory-serve_all-clause-stops g c told told_said told_input quiet work start =
+    let image = (g.H.Host.now c.args.host.now).image in
+    let store = work_of c.in-Ok.store in
+    let same : store ≡ work = one_start image store work (starts image (g.H.Host.now c.open.new.host).image store (c.in-Ok.ensures.opened told) (c.in-Ok.ensures.image told) (c.in-Ok.ensures.holds told)) start in
+    session_points g.H.Host.clock g.H.Host.stopped c.args.host.now c.open.new.host c.args.b.now.image work (items_in c.args.b.now.input (g.H.Host.now c.args.host.now).left) (g.H.Host.now c.args.host.now).said
+    c.serve_all.new.host c.in-Ok.store.journal.bounds.image store (items_in c.args.b.now.input (g.H.Host.now c.open.new.host).left) (g.H.Host.now c.open.new.host).said
+    (ap (λ (b : Bounds). b.image) c.in-Ok.ensures.bounds) same (ap (λ (l : List ℕ). items_in c.args.b.now.input l) c.open.ensures.rest.left) c.open.ensures.rest.said
+    (c.open.ensures.stops told quiet work.targets start.targets) (c.serve_all.ensures.stops told told_said told_input (c.in-Ok.ensures.quiet told quiet))
+
+pub returns-clause-stops : goal.returns-clause-stops
+returns-clause-stops g c told told_said told_input quiet work start =
+    let image = (g.H.Host.now c.args.host.now).image in
+    let store = work_of c.in-Ok.store in
+    let same : store ≡ work = one_start image store work (starts image (g.H.Host.now c.open.new.host).image store (c.in-Ok.ensures.opened told) (c.in-Ok.ensures.image told) (c.in-Ok.ensures.holds told)) start in
+    session_points g.H.Host.clock g.H.Host.stopped c.args.host.now c.open.new.host c.args.b.now.image work (items_in c.args.b.now.input (g.H.Host.now c.args.host.now).left) (g.H.Host.now c.args.host.now).said
+    c.serve_all.new.host c.in-Ok.store.journal.bounds.image store (items_in c.args.b.now.input (g.H.Host.now c.open.new.host).left) (g.H.Host.now c.open.new.host).said
+    (ap (λ (b : Bounds). b.image) c.in-Ok.ensures.bounds) same (ap (λ (l : List ℕ). items_in c.args.b.now.input l) c.open.ensures.rest.left) c.open.ensures.rest.said
+    (c.open.ensures.stops told quiet work.targets start.targets) (c.serve_all.ensures.stops told told_said told_input (c.in-Ok.ensures.quiet told quiet))
+
+pub returns-in-Ok-serve_all-clause-complete : goal.returns-in-Ok-serve_all-clause-complete
+returns-in-Ok-serve_all-clause-complete g c told told_said told_input _ =
+    let old = g.H.Host.now c.args.host.now in
+    let store = work_of c.in-Ok.store in
+    let image_bound : c.in-Ok.store.journal.bounds.image ≡ c.args.b.now.image = ap (λ (b : Bounds). b.image) c.in-Ok.ensures.bounds in
+    let items : items_in c.args.b.now.input (g.H.Host.now c.open.new.host).left ≡ items_in c.args.b.now.input old.left = ap (λ (l : List ℕ). items_in c.args.b.now.input l) c.open.ensures.rest.left in
+    record {
+      start = store;
+      is_start = starts old.image (g.H.Host.now c.open.new.host).image store (c.in-Ok.ensures.opened told) (c.in-Ok.ensures.image told) (c.in-Ok.ensures.holds told);
+      said = c.in-Ok-serve_all.ensures.said told_said told_input ∙ ap (λ (t : List ℕ). t ++ joined (replies c.in-Ok.store.journal.bounds.image 1 store (items_in c.args.b.now.input (g.H.Host.now c.open.new.host).left))) c.open.ensures.rest.said
+          ∙ ap (λ n. old.said ++ joined (replies n 1 store (items_in c.args.b.now.input (g.H.Host.now c.open.new.host).left))) image_bound ∙ ap (λ ls. old.said ++ joined (replies c.args.b.now.image 1 store ls)) items;
+      holds = subst (λ w. Holds (g.H.Host.now c.serve_all.new.host).image w)
+          (c.in-Ok-serve_all.ensures.work told_input ∙ ap (λ n. after n 1 store (items_in c.args.b.now.input (g.H.Host.now c.open.new.host).left)) image_bound ∙ ap (λ ls. after c.args.b.now.image 1 store ls) items)
+          (c.in-Ok-serve_all.ensures.holds told);
+      read = c.in-Ok-serve_all.ensures.read told_input;
+      in_bound = omega (arith, c.in-Ok-serve_all.ensures.in_bound told_input, ap length c.open.ensures.rest.left);
+    }

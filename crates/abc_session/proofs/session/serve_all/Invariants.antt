@@ -1,0 +1,36 @@
+use Rattle.std.proofs.Common.{◌≡◌, ◌≤◌, ◌+◌, ◌-◌, [], suc, length, true, IsTrue}
+use Rattle.abc_outside.specs.Stop.{Leaves, IsQuiet}
+use Rattle.abc_outside.specs.Session.{HasServed}
+use Rattle.abc_session.specs.Lines.{items_of, lines_of}
+use Rattle.abc_session.specs.Reading.{lines_left, used_of}
+use Rattle.abc_session.specs.Session.{replies}
+use Rattle.abc_session.specs.Serving.{work_of, works, Holds, IsSessionPoint, NoneFell}
+use Rattle.abc_session.proofs.session.serve_all.Given as goal
+
+abbrev pub invariant-items : goal.invariant-items
+invariant-items g l =
+    let first = g.H.Host.now l.initial.host in
+    let now = g.H.Host.now l.host in
+    let limit = l.initial.store.journal.bounds.image in
+    let work = work_of l.initial.store in
+    let items = items_of (lines_of l.bound first.left) in
+    let left = items_of (lines_left l.reader now.left) in
+    record {
+      sound : IsTrue l.store.journal.sound;
+      bounds : l.store.journal.bounds ≡ l.initial.store.journal.bounds;
+      input_bound : l.reader.bound ≡ l.bound;
+      holds : g.H.Host.tells_image → Holds now.image (work_of l.store);
+      counts : now.taken ≡ l.reader.taken;
+      total : g.H.Host.tells_input → l.reader.taken + length now.left ≡ length first.left;
+      ended : g.H.Host.tells_input → l.reader.ended ≡ true → now.left ≡ [];
+      counted : l.served ≤ used_of l.reader;
+      done : g.H.Host.tells_input → HasServed (works limit 1 work items) (replies limit 1 work items) (works limit (suc l.served) (work_of l.store) left) (replies limit (suc l.served) (work_of l.store) left) g.H.Host.tells_said first.said now.said;
+      stops : g.H.Host.tells_image → g.H.Host.tells_said → g.H.Host.tells_input → IsQuiet g.H.Host.clock g.H.Host.stopped l.initial.host first.image
+          → Leaves g.H.Host.clock g.H.Host.stopped l.initial.host l.host (IsSessionPoint limit 1 work items first.said);
+      quiet : g.H.Host.tells_image → IsQuiet g.H.Host.clock g.H.Host.stopped l.initial.host first.image → IsQuiet g.H.Host.clock g.H.Host.stopped l.host now.image;
+      chosen : now.chosen ≡ first.chosen;
+      none_fell : NoneFell first now;
+    }
+
+abbrev pub decreases-items : goal.decreases-items
+decreases-items g l = l.reader.bound - used_of l.reader

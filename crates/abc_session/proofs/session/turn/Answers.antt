@@ -1,0 +1,120 @@
+use Rattle.std.proofs.Common.{rules, ◌≡◌, ◌∙◌, ◌∷◌, ◌++◌, ◌+◌, suc, List, ℕ, false, sym, ap, subst, arith}
+use Rattle.abc_outside.specs.Stop.{IsQuiet, Extends}
+use Rattle.abc_session.specs.Lines.{is_blank, items_of}
+use Rattle.abc_session.specs.Reading.{shown, lines_left}
+use Rattle.abc_session.specs.Session.{outcome}
+use Rattle.abc_session.specs.Serving.{work_of}
+use Rattle.abc_session.proofs.Turns.{reading_stops, item_stops, same_goes_on, item_goes_on, blank_first}
+use Rattle.abc_session.proofs.session.turn.Goals as goal
+
+pub returns-in-Ok-None-clause-stops : goal.returns-in-Ok-None-clause-stops
+returns-in-Ok-None-clause-stops g c told told_said told_input quiet =
+    reading_stops g.H.Host.clock g.H.Host.stopped c.args.host.now c.next.new.host c.args.store.now.journal.bounds.image (suc c.args.served.now) (work_of c.args.store.now) (g.H.Host.now c.args.host.now).image (g.H.Host.now c.args.host.now).said
+    (c.requires.holds told) quiet (g.met.H.Host.says_now c.args.host.now) (items_of (lines_left c.args.reader.now (g.H.Host.now c.args.host.now).left)) c.next.ensures.stops
+
+pub returns-in-Err-Input-clause-stops : goal.returns-in-Err-Input-clause-stops
+returns-in-Err-Input-clause-stops g c told told_said told_input quiet =
+    reading_stops g.H.Host.clock g.H.Host.stopped c.args.host.now c.next.new.host c.args.store.now.journal.bounds.image (suc c.args.served.now) (work_of c.args.store.now) (g.H.Host.now c.args.host.now).image (g.H.Host.now c.args.host.now).said
+    (c.requires.holds told) quiet (g.met.H.Host.says_now c.args.host.now) (items_of (lines_left c.args.reader.now (g.H.Host.now c.args.host.now).left)) c.next.ensures.stops
+
+pub returns-in-Err-Long-clause-stops : goal.returns-in-Err-Long-clause-stops
+returns-in-Err-Long-clause-stops g c told told_said told_input quiet =
+    reading_stops g.H.Host.clock g.H.Host.stopped c.args.host.now c.next.new.host c.args.store.now.journal.bounds.image (suc c.args.served.now) (work_of c.args.store.now) (g.H.Host.now c.args.host.now).image (g.H.Host.now c.args.host.now).said
+    (c.requires.holds told) quiet (g.met.H.Host.says_now c.args.host.now) (items_of (lines_left c.args.reader.now (g.H.Host.now c.args.host.now).left)) c.next.ensures.stops
+
+pub returns-in-Err-Memory-clause-stops : goal.returns-in-Err-Memory-clause-stops
+returns-in-Err-Memory-clause-stops g c told told_said told_input quiet =
+    reading_stops g.H.Host.clock g.H.Host.stopped c.args.host.now c.next.new.host c.args.store.now.journal.bounds.image (suc c.args.served.now) (work_of c.args.store.now) (g.H.Host.now c.args.host.now).image (g.H.Host.now c.args.host.now).said
+    (c.requires.holds told) quiet (g.met.H.Host.says_now c.args.host.now) (items_of (lines_left c.args.reader.now (g.H.Host.now c.args.host.now).left)) c.next.ensures.stops
+
+pub returns-then-is_blank-clause-stops : goal.returns-then-is_blank-clause-stops
+returns-then-is_blank-clause-stops g c told told_said told_input quiet =
+    reading_stops g.H.Host.clock g.H.Host.stopped c.args.host.now c.next.new.host c.args.store.now.journal.bounds.image (suc c.args.served.now) (work_of c.args.store.now) (g.H.Host.now c.args.host.now).image (g.H.Host.now c.args.host.now).said
+    (c.requires.holds told) quiet (g.met.H.Host.says_now c.args.host.now) (items_of (lines_left c.args.reader.now (g.H.Host.now c.args.host.now).left)) c.next.ensures.stops
+
+pub returns-then-is_blank-clause-goes_on : goal.returns-then-is_blank-clause-goes_on
+returns-then-is_blank-clause-goes_on g c told =
+    let line = shown c.in-Ok-Some.line in
+    let later = lines_left c.next.new.self (g.H.Host.now c.next.new.host).left in
+    let split : lines_left c.args.reader.now (g.H.Host.now c.args.host.now).left ≡ line ∷ later = (rw c.in-Ok-Some.field-0-is at c.in-Ok-Some.ensures.line) told in
+    same_goes_on _ _ (work_of c.args.store.now) _ _ _ _ _ _ (sym (ap items_of split ∙ blank_first line later (search rules))) (search rules) c.next.ensures.rest.said
+
+pub returns-in-Ok-clause-stops : goal.returns-in-Ok-clause-stops
+returns-in-Ok-clause-stops g c told told_said told_input quiet =
+    let line = shown c.in-Ok-Some.line in
+    let later = lines_left c.next.new.self (g.H.Host.now c.next.new.host).left in
+    let split : lines_left c.args.reader.now (g.H.Host.now c.args.host.now).left ≡ line ∷ later = (rw c.in-Ok-Some.field-0-is at c.in-Ok-Some.ensures.line) told_input in
+    let some : is_blank line ≡ false = search rules in
+    let number : c.args.served.now + 1 ≡ suc c.args.served.now = omega arith in
+    let quiet_mid : IsQuiet g.H.Host.clock g.H.Host.stopped c.next.new.host (g.H.Host.now c.next.new.host).image =
+    λ i s stop. subst (λ m. Extends m i) (sym c.next.ensures.rest.image) (quiet i s (c.next.ensures.now i s stop)) in
+    item_stops g.H.Host.clock g.H.Host.stopped c.args.host.now c.next.new.host c.serve_item.new.host c.args.store.now.journal.bounds.image (suc c.args.served.now) (c.args.served.now + 1) (work_of c.args.store.now) line _ later
+    (g.H.Host.now c.args.host.now).said (g.H.Host.now c.next.new.host).said split some number c.next.ensures.rest.said
+    (reading_stops g.H.Host.clock g.H.Host.stopped c.args.host.now c.next.new.host c.args.store.now.journal.bounds.image (suc c.args.served.now) (work_of c.args.store.now) (g.H.Host.now c.args.host.now).image (g.H.Host.now c.args.host.now).said
+    (c.requires.holds told) quiet (g.met.H.Host.says_now c.args.host.now) (items_of (lines_left c.args.reader.now (g.H.Host.now c.args.host.now).left)) c.next.ensures.stops)
+    (c.serve_item.ensures.stops told told_said quiet_mid)
+
+pub returns-in-Err-StoreFault-clause-stops : goal.returns-in-Err-StoreFault-clause-stops
+returns-in-Err-StoreFault-clause-stops g c told told_said told_input quiet =
+    let line = shown c.in-Ok-Some.line in
+    let later = lines_left c.next.new.self (g.H.Host.now c.next.new.host).left in
+    let split : lines_left c.args.reader.now (g.H.Host.now c.args.host.now).left ≡ line ∷ later = (rw c.in-Ok-Some.field-0-is at c.in-Ok-Some.ensures.line) told_input in
+    let some : is_blank line ≡ false = search rules in
+    let number : c.args.served.now + 1 ≡ suc c.args.served.now = omega arith in
+    let quiet_mid : IsQuiet g.H.Host.clock g.H.Host.stopped c.next.new.host (g.H.Host.now c.next.new.host).image =
+    λ i s stop. subst (λ m. Extends m i) (sym c.next.ensures.rest.image) (quiet i s (c.next.ensures.now i s stop)) in
+    item_stops g.H.Host.clock g.H.Host.stopped c.args.host.now c.next.new.host c.serve_item.new.host c.args.store.now.journal.bounds.image (suc c.args.served.now) (c.args.served.now + 1) (work_of c.args.store.now) line _ later
+    (g.H.Host.now c.args.host.now).said (g.H.Host.now c.next.new.host).said split some number c.next.ensures.rest.said
+    (reading_stops g.H.Host.clock g.H.Host.stopped c.args.host.now c.next.new.host c.args.store.now.journal.bounds.image (suc c.args.served.now) (work_of c.args.store.now) (g.H.Host.now c.args.host.now).image (g.H.Host.now c.args.host.now).said
+    (c.requires.holds told) quiet (g.met.H.Host.says_now c.args.host.now) (items_of (lines_left c.args.reader.now (g.H.Host.now c.args.host.now).left)) c.next.ensures.stops)
+    (c.serve_item.ensures.stops told told_said quiet_mid)
+
+pub returns-in-Err-SinkFault-clause-stops : goal.returns-in-Err-SinkFault-clause-stops
+returns-in-Err-SinkFault-clause-stops g c told told_said told_input quiet =
+    let line = shown c.in-Ok-Some.line in
+    let later = lines_left c.next.new.self (g.H.Host.now c.next.new.host).left in
+    let split : lines_left c.args.reader.now (g.H.Host.now c.args.host.now).left ≡ line ∷ later = (rw c.in-Ok-Some.field-0-is at c.in-Ok-Some.ensures.line) told_input in
+    let some : is_blank line ≡ false = search rules in
+    let number : c.args.served.now + 1 ≡ suc c.args.served.now = omega arith in
+    let quiet_mid : IsQuiet g.H.Host.clock g.H.Host.stopped c.next.new.host (g.H.Host.now c.next.new.host).image =
+    λ i s stop. subst (λ m. Extends m i) (sym c.next.ensures.rest.image) (quiet i s (c.next.ensures.now i s stop)) in
+    item_stops g.H.Host.clock g.H.Host.stopped c.args.host.now c.next.new.host c.serve_item.new.host c.args.store.now.journal.bounds.image (suc c.args.served.now) (c.args.served.now + 1) (work_of c.args.store.now) line _ later
+    (g.H.Host.now c.args.host.now).said (g.H.Host.now c.next.new.host).said split some number c.next.ensures.rest.said
+    (reading_stops g.H.Host.clock g.H.Host.stopped c.args.host.now c.next.new.host c.args.store.now.journal.bounds.image (suc c.args.served.now) (work_of c.args.store.now) (g.H.Host.now c.args.host.now).image (g.H.Host.now c.args.host.now).said
+    (c.requires.holds told) quiet (g.met.H.Host.says_now c.args.host.now) (items_of (lines_left c.args.reader.now (g.H.Host.now c.args.host.now).left)) c.next.ensures.stops)
+    (c.serve_item.ensures.stops told told_said quiet_mid)
+
+pub returns-clause-stops : goal.returns-clause-stops
+returns-clause-stops g c told told_said told_input quiet =
+    let line = shown c.in-Ok-Some.line in
+    let later = lines_left c.next.new.self (g.H.Host.now c.next.new.host).left in
+    let split : lines_left c.args.reader.now (g.H.Host.now c.args.host.now).left ≡ line ∷ later = (rw c.in-Ok-Some.field-0-is at c.in-Ok-Some.ensures.line) told_input in
+    let some : is_blank line ≡ false = search rules in
+    let number : c.args.served.now + 1 ≡ suc c.args.served.now = omega arith in
+    let quiet_mid : IsQuiet g.H.Host.clock g.H.Host.stopped c.next.new.host (g.H.Host.now c.next.new.host).image =
+    λ i s stop. subst (λ m. Extends m i) (sym c.next.ensures.rest.image) (quiet i s (c.next.ensures.now i s stop)) in
+    item_stops g.H.Host.clock g.H.Host.stopped c.args.host.now c.next.new.host c.serve_item.new.host c.args.store.now.journal.bounds.image (suc c.args.served.now) (c.args.served.now + 1) (work_of c.args.store.now) line _ later
+    (g.H.Host.now c.args.host.now).said (g.H.Host.now c.next.new.host).said split some number c.next.ensures.rest.said
+    (reading_stops g.H.Host.clock g.H.Host.stopped c.args.host.now c.next.new.host c.args.store.now.journal.bounds.image (suc c.args.served.now) (work_of c.args.store.now) (g.H.Host.now c.args.host.now).image (g.H.Host.now c.args.host.now).said
+    (c.requires.holds told) quiet (g.met.H.Host.says_now c.args.host.now) (items_of (lines_left c.args.reader.now (g.H.Host.now c.args.host.now).left)) c.next.ensures.stops)
+    (c.serve_item.ensures.stops told told_said quiet_mid)
+
+pub returns-in-Ok-clause-goes_on : goal.returns-in-Ok-clause-goes_on
+returns-in-Ok-clause-goes_on g c told_input =
+    let line = shown c.in-Ok-Some.line in
+    let bound = c.args.store.now.journal.bounds.image in
+    let work = work_of c.args.store.now in
+    let later = lines_left c.next.new.self (g.H.Host.now c.next.new.host).left in
+    let split : lines_left c.args.reader.now (g.H.Host.now c.args.host.now).left ≡ line ∷ later = (rw c.in-Ok-Some.field-0-is at c.in-Ok-Some.ensures.line) told_input in
+    let some : is_blank line ≡ false = search rules in
+    let number : c.args.served.now + 1 ≡ suc c.args.served.now = omega arith in
+    let work_is : work_of c.serve_item.new.store ≡ (outcome bound (c.args.served.now + 1) work line).work = search rules in
+    let same : work_of c.serve_item.new.store ≡ (outcome bound (suc c.args.served.now) work line).work = work_is ∙ ap (λ n. (outcome bound n work line).work) number in
+    let says : g.H.Host.tells_said → (g.H.Host.now c.serve_item.new.host).said ≡ (g.H.Host.now c.args.host.now).said ++ (outcome bound (suc c.args.served.now) work line).reply =
+    λ told. c.in-Ok.ensures.said told ∙ ap (λ (l : List ℕ). l ++ (outcome bound (c.args.served.now + 1) work line).reply) c.next.ensures.rest.said ∙ ap (λ n. (g.H.Host.now c.args.host.now).said ++ (outcome bound n work line).reply) number in
+    rw c.serve_item.ensures.rest.left
+    (item_goes_on bound (suc c.args.served.now) (suc (c.args.served.now + 1)) work (work_of c.serve_item.new.store) line (lines_left c.args.reader.now (g.H.Host.now c.args.host.now).left) later
+    g.H.Host.tells_said (g.H.Host.now c.args.host.now).said (g.H.Host.now c.serve_item.new.host).said split some (ap (λ n. suc n) number) same says)
+
+pub returns-in-Ok-None-clause-counted : goal.returns-in-Ok-None-clause-counted
+returns-in-Ok-None-clause-counted g c = omega (arith, c.in-Ok-None.ensures.no_fewer, c.requires.counted)

@@ -1,0 +1,60 @@
+use Rattle.std.proofs.Common.{◌≡◌, ◌∙◌, ℕ, List, [], sym, ap}
+use Rattle.std.specs.Prelude.{Ok, Err}
+use Rattle.abc_session.specs.Workspace.{opens, targets_from}
+use Rattle.abc_session.proofs.Opening.{opens_of, opens_err, opens_settled, kept_image, opening_stops}
+use Rattle.abc_session.proofs.store.Store.open.Goals as goal
+
+pub returns-in-Err-StoreFault-clause-stops : goal.returns-in-Err-StoreFault-clause-stops
+returns-in-Err-StoreFault-clause-stops g c told quiet targets is =
+    opening_stops g.H.Host.clock g.H.Host.stopped c.args.host.now c.begin.new.host (g.H.Host.now c.args.host.now).image (g.H.Host.now c.args.host.now).said targets is (c.begin.ensures.stops told quiet)
+
+pub returns-in-Err-NotAStore-clause-stops : goal.returns-in-Err-NotAStore-clause-stops
+returns-in-Err-NotAStore-clause-stops g c told quiet targets is =
+    opening_stops g.H.Host.clock g.H.Host.stopped c.args.host.now c.begin.new.host (g.H.Host.now c.args.host.now).image (g.H.Host.now c.args.host.now).said targets is (c.begin.ensures.stops told quiet)
+
+pub returns-in-Err-NotAStore-clause-refused : goal.returns-in-Err-NotAStore-clause-refused
+returns-in-Err-NotAStore-clause-refused g c told is =
+    (c.in-Err-NotAStore.field-0-0, opens_err (g.H.Host.now c.args.host.now).image c.in-Err-NotAStore.field-0-0 ((rw c.in-Err-NotAStore.field-0-is at c.in-Err-NotAStore.ensures.refused) told))
+
+pub returns-in-Err-Memory-clause-stops : goal.returns-in-Err-Memory-clause-stops
+returns-in-Err-Memory-clause-stops g c told quiet targets is =
+    opening_stops g.H.Host.clock g.H.Host.stopped c.args.host.now c.begin.new.host (g.H.Host.now c.args.host.now).image (g.H.Host.now c.args.host.now).said targets is (c.begin.ensures.stops told quiet)
+
+pub returns-in_err-targets-clause-stops : goal.returns-in_err-targets-clause-stops
+returns-in_err-targets-clause-stops g c told quiet targets is =
+    opening_stops g.H.Host.clock g.H.Host.stopped c.args.host.now c.begin.new.host (g.H.Host.now c.args.host.now).image (g.H.Host.now c.args.host.now).said targets is (c.begin.ensures.stops told quiet)
+
+pub returns-in-Some-clause-stops : goal.returns-in-Some-clause-stops
+returns-in-Some-clause-stops g c told quiet targets is =
+    opening_stops g.H.Host.clock g.H.Host.stopped c.args.host.now c.begin.new.host (g.H.Host.now c.args.host.now).image (g.H.Host.now c.args.host.now).said targets is (c.begin.ensures.stops told quiet)
+
+pub returns-clause-stops : goal.returns-clause-stops
+returns-clause-stops g c told quiet targets is =
+    opening_stops g.H.Host.clock g.H.Host.stopped c.args.host.now c.begin.new.host (g.H.Host.now c.args.host.now).image (g.H.Host.now c.args.host.now).said targets is (c.begin.ensures.stops told quiet)
+
+pub returns-in-Some-clause-opened : goal.returns-in-Some-clause-opened
+returns-in-Some-clause-opened g c told =
+    let start = c.in-Ok.found.0.layout.start in
+    let made : targets_from start [] c.deref.result.now ≡ Ok c.in-Some.targets = rw c.in-Some.is at (c.in_ok-targets.ensures start) in
+    opens_of _ _ (c.in-Ok.ensures.opened told) ∙ ap (λ (ps : List (List ℕ)). targets_from start [] ps) (sym c.deref.ensures.value) ∙ made
+
+pub returns-in-Some-clause-holds : goal.returns-in-Some-clause-holds
+returns-in-Some-clause-holds g c told =
+    let start = c.in-Ok.found.0.layout.start in
+    let made : targets_from start [] c.deref.result.now ≡ Ok c.in-Some.targets = rw c.in-Some.is at (c.in_ok-targets.ensures start) in
+    let before : opens (g.H.Host.now c.args.host.now).image ≡ Ok c.in-Some.targets =
+    opens_of _ _ (c.in-Ok.ensures.opened told) ∙ ap (λ (ps : List (List ℕ)). targets_from start [] ps) (sym c.deref.ensures.value) ∙ made in
+    record { layout = c.in-Ok.ensures.layout told; opens_to = ap opens (c.in-Ok.ensures.image told) ∙ opens_settled (g.H.Host.now c.args.host.now).image ∙ before }
+
+pub returns-clause-refused : goal.returns-clause-refused
+returns-clause-refused g c told is =
+    let start = c.in-Ok.found.0.layout.start in
+    let none : (at : ℕ) × (targets_from start [] c.deref.result.now ≡ Err at) = rw c.in-None.is at (c.in_ok-targets.ensures start) in
+    (none.0, opens_of _ _ (c.in-Ok.ensures.opened told) ∙ ap (λ (ps : List (List ℕ)). targets_from start [] ps) (sym c.deref.ensures.value) ∙ none.1)
+
+pub returns-clause-unchanged : goal.returns-clause-unchanged
+returns-clause-unchanged g c told is =
+    let start = c.in-Ok.found.0.layout.start in
+    let none : (at : ℕ) × (targets_from start [] c.deref.result.now ≡ Err at) = rw c.in-None.is at (c.in_ok-targets.ensures start) in
+    let refused : targets_from start [] c.in-Ok.found.1.items ≡ Err none.0 = ap (λ (ps : List (List ℕ)). targets_from start [] ps) (sym c.deref.ensures.value) ∙ none.1 in
+    c.in-Ok.ensures.image told ∙ kept_image (g.H.Host.now c.args.host.now).image _ (c.in-Ok.ensures.opened told) (λ empty. cc (refused, ap (λ (ps : List (List ℕ)). targets_from start [] ps) empty))

@@ -1,0 +1,24 @@
+//! The session: lines in, replies out, and the workspace kept in the store.
+#![tactic(auto)]
+
+mod command;
+mod line;
+mod reader;
+mod record;
+mod reply;
+mod running;
+mod say;
+mod scan;
+mod serve;
+mod session;
+mod status;
+mod store;
+mod targets;
+
+pub use running::{run, run_within};
+pub use status::{
+    COMPLETE, INPUT_FAULT, INPUT_TOO_LONG, MEMORY, NOT_A_STORE, SINK_FAULT, STORE_FAULT, USAGE,
+};
+
+#[cfg(test)]
+mod tests;

@@ -1,0 +1,223 @@
+//! The reader: the lines of the input, one after the other.
+ghost use Rattle.std.specs.Prelude.{◌≡◌, ◌⊎◌, ◌≤◌, ◌<◌, ◌+◌, ◌-◌, ◌^◌, min, ◌++◌, ◌∷◌, [], List, ℕ, false, true, length, take, drop, IfOk, IfErr, OnOk, OnErr, IsErrOf, IsTrue, MatchOption, IsSome, IsNone, IfSome};
+ghost use Rattle.abc_outside.specs.Outside.{Outside, Rose, KeepsButInput};
+ghost use Rattle.abc_outside.specs.Stop.{Leaves};
+
+use crate::line::Line;
+use crate::scan::place_of;
+use abc_num::limits::MOST_LINE_BYTES;
+use abc_outside::{Failed, Host};
+use std::alloc::{AllocError, Global};
+
+/// The most bytes that one read asks for.
+const PIECE_BYTES: usize = 65_536;
+
+const LF: u8 = 10;
+
+/// Why no line was read.
+#[derive(Clone, Copy, Debug, PartialEq, Eq)]
+pub(crate) enum LineStop {
+    /// A read failed.
+    Input,
+    /// The bound on the input is reached, and a byte more is wanted.
+    Long,
+    Memory,
+}
+
+impl From<AllocError> for LineStop {
+    ghost use Rattle.std.specs.Prelude.{◌≡◌};
+    ghost use Rattle.abc_session.specs.declared.reader.LineStop.TheVariants.{Memory};
+
+    ghost from_gives = { λ _ stop. stop ≡ Memory };
+
+    fn from(_: AllocError) -> Self {
+        LineStop::Memory
+    }
+}
+
+/// The bytes that were taken from the input, those of them that are not yet used, and the bound on them.
+#[derive(Drop)]
+pub(crate) struct Reader {
+    alloc: Global,
+    piece: Vec<u8>,
+    from: usize,
+    to: usize,
+    taken: u64,
+    bound: u64,
+    /// A read gave nothing: there is no other.
+    ended: bool,
+    ghost in_piece: { to ≤ length piece.items },
+    ghost in_order: { from ≤ to },
+    ghost were_taken: { to - from ≤ taken },
+    ghost in_bound: { taken ≤ bound },
+    ghost before_bound: { ended ≡ true → taken < bound },
+}
+
+fn make_piece(alloc: Global, size: usize) -> Result<Vec<u8>, AllocError>
+    ensures { IfOk result (λ piece. length piece.items ≡ size) }
+{
+    vec![in alloc; 0u8; size]
+}
+
+ghost use Rattle.abc_session.specs.Asking.{Asked, AsksNow};
+
+/// Reads once into the piece, at most so many bytes.
+fn read_piece<H: Host>(host: &mut H, piece: &mut [u8], most: u64) -> Result<usize, LineStop>
+    requires most { 0 < most }
+    requires room { 0 < length piece.old }
+    ensures within { IfOk result (λ count. count ≤ length piece.new) }
+    ensures most { IfOk result (λ count. count ≤ most) }
+    ensures bytes { H.tells_input → IfOk result (λ count. (H.now host.old).left ≡ take count piece.new ++ (H.now host.new).left) }
+    ensures end { H.tells_input → IfOk result (λ count. count ≡ 0 → (H.now host.old).left ≡ []) }
+    ensures taken { IfOk result (λ count. (H.now host.new).taken ≡ min ((H.now host.old).taken + count) (2 ^ 64 - 1)) }
+    ensures stop { IfErr result (λ stop. stop ≡ LineStop.Input) }
+    ensures input { OnErr result (Rose (H.now host.old).input_faults (H.now host.new).input_faults) }
+    ensures failed { OnErr result ((H.now host.new).taken ≡ (H.now host.old).taken) }
+    ensures failed_left { OnErr result ((H.now host.new).left ≡ (H.now host.old).left) }
+    ensures asked { H.tells_said → Asked (AsksNow (H.now host.old).taken (length (H.now host.old).said)) (H.now host.old).asked (H.now host.new).asked }
+    ensures rest { KeepsButInput (H.now host.old) (H.now host.new) }
+    ensures stops { Leaves H.clock H.stopped host.old host.new (H.stopped host.old (H.clock host.old)) }
+    ensures now { (c s : List ℕ) → H.stopped host.new (H.clock host.new) c s → H.stopped host.old (H.clock host.old) c s }
+{
+    let room = most.min(piece.len() as u64) as usize;
+    match host.read(&mut piece[..room]) {
+        Ok(count) => Ok(count),
+        Err(Failed) => Err(LineStop::Input),
+    }
+}
+
+impl Reader {
+    ghost use Rattle.abc_session.specs.Reading.{shown, pending_of, used_of, bytes_left, lines_left, TookPart, WantsMore, AsksMore};
+
+    pub(crate) fn new(alloc: Global, bound: u64) -> Reader
+        ensures taken { result.taken ≡ 0 }
+        ensures bound { result.bound ≡ bound }
+        ensures pending { pending_of result ≡ [] }
+        ensures ended { result.ended ≡ false }
+    {
+        Reader {
+            alloc,
+            piece: Vec::new(alloc),
+            from: 0,
+            to: 0,
+            taken: 0,
+            bound,
+            ended: false,
+        }
+    }
+
+    /// Moves the pending bytes into the line, up to the LF that ends it. True where there is one.
+    fn take_part(&mut self, line: &mut Line) -> Result<bool, AllocError>
+        ensures part { IfOk result (λ found. TookPart (pending_of self.old) (pending_of self.new) (shown line.old) (shown line.new) found) }
+        ensures used { result ≡ Ok true → used_of self.old < used_of self.new }
+        ensures no_fewer { OnOk result (used_of self.old ≤ used_of self.new) }
+        ensures size { OnOk result (length line.new.text.items + used_of self.old ≤ length line.old.text.items + used_of self.new) }
+        ensures most { length line.old.text.items ≤ MOST_LINE_BYTES → OnOk result (length line.new.text.items ≤ MOST_LINE_BYTES) }
+        ensures taken { self.new.taken ≡ self.old.taken }
+        ensures bound { self.new.bound ≡ self.old.bound }
+        ensures ended { self.new.ended ≡ self.old.ended }
+    {
+        let pending = &self.piece[self.from..self.to];
+        let end = place_of(LF, pending);
+        line.add(&pending[..end])?;
+        if end == pending.len() {
+            self.from = self.to;
+            return Ok(false);
+        }
+        self.from += end + 1;
+        Ok(true)
+    }
+
+    /// Takes the memory of the piece before the first read.
+    fn make_room(&mut self) -> Result<(), AllocError>
+        requires { pending_of self.old ≡ [] }
+        ensures room { OnOk result (0 < length self.new.piece.items) }
+        ensures used { pending_of self.new ≡ [] }
+        ensures used_same { used_of self.new ≡ used_of self.old }
+        ensures taken { self.new.taken ≡ self.old.taken }
+        ensures bound { self.new.bound ≡ self.old.bound }
+        ensures ended { self.new.ended ≡ self.old.ended }
+    {
+        if self.piece.is_empty() {
+            self.piece = make_piece(self.alloc, PIECE_BYTES)?;
+        }
+        Ok(())
+    }
+
+    /// Reads once, where all bytes are used. At the end of the input it remembers that.
+    fn fill<H: Host>(&mut self, host: &mut H) -> Result<(), LineStop>
+        requires room { self.old.taken < self.old.bound }
+        requires used { pending_of self.old ≡ [] }
+        requires same_count { (H.now host.old).taken ≡ self.old.taken }
+
+        ensures bytes { H.tells_input → OnOk result ((H.now host.old).left ≡ pending_of self.new ++ (H.now host.new).left) }
+        ensures count { OnOk result (self.new.taken ≡ self.old.taken + length (pending_of self.new)) }
+        ensures end { H.tells_input → OnOk result (self.new.ended ≡ true → (H.now host.old).left ≡ []) }
+        ensures more { OnOk result ((self.new.ended ≡ true) ⊎ (self.old.taken < self.new.taken)) }
+        ensures used_same { OnOk result (used_of self.new ≡ used_of self.old) }
+        ensures not_long { IsErrOf result LineStop.Long → ⊥ }
+        ensures input { IsErrOf result LineStop.Input → Rose (H.now host.old).input_faults (H.now host.new).input_faults }
+
+        ensures failed { OnErr result (self.new.taken ≡ self.old.taken) }
+        ensures failed_left { OnErr result ((H.now host.new).left ≡ (H.now host.old).left) }
+        ensures counts { (H.now host.new).taken ≡ self.new.taken }
+        ensures bound { self.new.bound ≡ self.old.bound }
+        ensures asked { H.tells_said → Asked (AsksNow self.old.taken (length (H.now host.old).said)) (H.now host.old).asked (H.now host.new).asked }
+        ensures rest { KeepsButInput (H.now host.old) (H.now host.new) }
+        ensures stops { Leaves H.clock H.stopped host.old host.new (H.stopped host.old (H.clock host.old)) }
+        ensures now { (c s : List ℕ) → H.stopped host.new (H.clock host.new) c s → H.stopped host.old (H.clock host.old) c s }
+    {
+        self.make_room()?;
+        let room = self.bound - self.taken;
+        let count = read_piece(host, &mut self.piece, room)?;
+        self.from = 0;
+        self.to = count;
+        self.taken += count as u64;
+        self.ended = count == 0;
+        Ok(())
+    }
+
+    /// The next line, or none at the end of the input. It reads where the bytes in hand hold no whole line, and no
+    /// more after a read that gave nothing.
+    pub(crate) fn next<H: Host>(&mut self, host: &mut H) -> Result<Option<Line>, LineStop>
+        requires same_count { (H.now host.old).taken ≡ self.old.taken }
+        requires ended { H.tells_input → self.old.ended ≡ true → (H.now host.old).left ≡ [] }
+
+        ensures line { H.tells_input → IfOk result (λ found. MatchOption found (lines_left self.old (H.now host.old).left ≡ [])
+            (λ line. lines_left self.old (H.now host.old).left ≡ shown line ∷ lines_left self.new (H.now host.new).left)) }
+        ensures used { IfOk result (λ found. IsSome found → used_of self.old < used_of self.new) }
+        ensures no_fewer { OnOk result (used_of self.old ≤ used_of self.new) }
+        ensures short { IfOk result (λ found. IfSome found (λ line. length line.text.items ≤ MOST_LINE_BYTES)) }
+        ensures end { H.tells_input → IfOk result (λ found. IsNone found → (H.now host.new).left ≡ []) }
+        ensures end_bound { IfOk result (λ found. IsNone found → self.new.taken < self.new.bound) }
+
+        ensures long { IsErrOf result LineStop.Long → self.new.taken ≡ self.new.bound }
+        ensures input { IsErrOf result LineStop.Input → Rose (H.now host.old).input_faults (H.now host.new).input_faults }
+        ensures wants { H.tells_input → (IsErrOf result LineStop.Long ⊎ IsErrOf result LineStop.Input)
+            → WantsMore (pending_of self.old) (H.now host.old).left self.old.taken self.new.taken }
+
+        ensures total { H.tells_input → self.new.taken + length (H.now host.new).left ≡ self.old.taken + length (H.now host.old).left }
+        ensures counts { (H.now host.new).taken ≡ self.new.taken }
+        ensures ended { H.tells_input → OnOk result (self.new.ended ≡ true → (H.now host.new).left ≡ []) }
+        ensures bound { self.new.bound ≡ self.old.bound }
+        ensures asked { H.tells_said → H.tells_input
+            → Asked (AsksMore (pending_of self.old) (H.now host.old).left self.old.taken (length (H.now host.old).said)) (H.now host.old).asked (H.now host.new).asked }
+        ensures rest { KeepsButInput (H.now host.old) (H.now host.new) }
+        ensures stops { Leaves H.clock H.stopped host.old host.new (H.stopped host.old (H.clock host.old)) }
+        ensures now { (c s : List ℕ) → H.stopped host.new (H.clock host.new) c s → H.stopped host.old (H.clock host.old) c s }
+    {
+        let mut line = Line::new(self.alloc);
+        'pieces: loop {
+            if self.take_part(&mut line)? {
+                return Ok(Some(line));
+            }
+            if self.ended {
+                return Ok(line.if_any());
+            }
+            if self.taken == self.bound {
+                return Err(LineStop::Long);
+            }
+            self.fill(host)?;
+        }
+    }
+}

@@ -1,0 +1,155 @@
+//! The run: words in, a status out.
+ghost use Rattle.std.specs.Prelude.{◌≡◌, ◌⊎◌, ◌≤◌, ◌<◌, ◌++◌, ◌↔◌, List, ℕ, ℤ, map, length, Ok, Err, None, Some, option_map, IsTrue};
+ghost use Rattle.abc_outside.specs.Outside.{Outside, Rose};
+ghost use Rattle.abc_outside.specs.Stop.{Leaves, IsQuiet};
+ghost use Rattle.abc_journal.specs.Journal.{BeginsQuiet};
+ghost use Rattle.abc_session.specs.Workspace.{opens};
+ghost use Rattle.abc_session.specs.Session.{Work, after};
+ghost use Rattle.abc_session.specs.Serving.{IsSessionPoint, NoneFell, IsStill};
+ghost use Rattle.abc_session.specs.Run.{store_named, IsStart, items_in, IsComplete, IsUntouched, chose, IsStatus, IsRunStatus, NoneRose};
+
+use crate::session::{SessionStop, serve_all};
+use crate::status::{
+    COMPLETE, INPUT_FAULT, INPUT_TOO_LONG, MEMORY, NOT_A_STORE, SINK_FAULT, STORE_FAULT, USAGE,
+};
+use crate::store::{OpenFault, Store};
+use abc_journal::Bounds;
+use abc_num::limits::{CHECKPOINT_BOUND, IMAGE_BOUND, INPUT_BOUND};
+use abc_outside::{ChooseFault, Host};
+use std::alloc::Global;
+
+/// The store that the words name.
+fn store_of<'a>(words: &[&'a str]) -> Option<&'a str>
+    ensures { option_map (λ store. store.now) result ≡ store_named (map (λ word. word.now) words.now) }
+{
+    match words {
+        [store] if store.as_bytes().first() != Some(&b'-') => Some(*store),
+        _ => None,
+    }
+}
+
+/// Opens the store that was chosen, and serves the items of the input.
+fn run_store<H: Host>(alloc: Global, host: &mut H, b: &Bounds) -> u8
+    requires { (H.now host.old).taken ≡ 0 }
+
+    ensures complete { H.tells_image → H.tells_said → H.tells_input → result ≡ COMPLETE → IsComplete b.now.image b.now.input (H.now host.old) (H.now host.new) }
+    ensures input_fault { result ≡ INPUT_FAULT → Rose (H.now host.old).input_faults (H.now host.new).input_faults }
+    ensures store_fault { result ≡ STORE_FAULT → Rose (H.now host.old).store_faults (H.now host.new).store_faults }
+    ensures sink_fault { result ≡ SINK_FAULT → Rose (H.now host.old).sink_faults (H.now host.new).sink_faults }
+    ensures not_a_store { H.tells_image → result ≡ NOT_A_STORE → (at : ℕ) × (opens (H.now host.old).image ≡ Err at) }
+    ensures untouched { H.tells_image → result ≡ NOT_A_STORE → IsUntouched (H.now host.old) (H.now host.new) }
+    ensures refused { H.tells_image → (at : ℕ) → opens (H.now host.old).image ≡ Err at → (result ≡ NOT_A_STORE) ⊎ (result ≡ STORE_FAULT) ⊎ (result ≡ MEMORY) }
+    ensures too_long { result ≡ INPUT_TOO_LONG → (H.now host.new).taken ≡ b.now.input }
+    ensures too_long_input { H.tells_input → result ≡ INPUT_TOO_LONG → b.now.input ≤ length (H.now host.old).left }
+    ensures status { IsRunStatus result }
+    ensures chosen { (H.now host.new).chosen ≡ (H.now host.old).chosen }
+    ensures none_fell { NoneFell (H.now host.old) (H.now host.new) }
+
+    ensures stops { H.tells_image → H.tells_said → H.tells_input → BeginsQuiet H.clock H.stopped host.old (H.now host.old).image
+        → (work : Work) → IsStart (H.now host.old).image work
+        → Leaves H.clock H.stopped host.old host.new (IsSessionPoint b.now.image 1 work (items_in b.now.input (H.now host.old).left) (H.now host.old).said) }
+    ensures quiet { H.tells_image → BeginsQuiet H.clock H.stopped host.old (H.now host.old).image
+        → result ≡ COMPLETE → IsQuiet H.clock H.stopped host.new (H.now host.new).image }
+{
+    let mut store = match Store::open(alloc, host, b) {
+        Ok(store) => store,
+        Err(OpenFault::StoreFault) => return STORE_FAULT,
+        Err(OpenFault::NotAStore) => return NOT_A_STORE,
+        Err(OpenFault::Memory) => return MEMORY,
+    };
+    match serve_all(alloc, &mut store, host, b.input) {
+        Ok(()) => COMPLETE,
+        Err(SessionStop::Input) => INPUT_FAULT,
+        Err(SessionStop::StoreFault) => STORE_FAULT,
+        Err(SessionStop::SinkFault) => SINK_FAULT,
+        Err(SessionStop::Memory) => MEMORY,
+        Err(SessionStop::Long) => INPUT_TOO_LONG,
+    }
+}
+
+/// Runs with these bounds: reads the words, chooses and opens the store, serves the items of the input one after the
+/// other, and says their replies. The answer is the status.
+pub fn run_within<H: Host>(alloc: Global, words: &[&str], host: &mut H, b: &Bounds) -> u8
+    // A complete run.
+    ensures complete { H.tells_image → H.tells_said → H.tells_input → result ≡ COMPLETE → IsComplete b.now.image b.now.input (H.now host.old) (H.now host.new) }
+
+    // When each other status comes.
+    ensures usage { (result ≡ USAGE) ↔ (store_named (map (λ word. word.now) words.now) ≡ None) }
+    ensures input_fault { result ≡ INPUT_FAULT → Rose (H.now host.old).input_faults (H.now host.new).input_faults }
+    ensures store_fault { result ≡ STORE_FAULT → Rose (H.now host.old).store_faults (H.now host.new).store_faults }
+    ensures sink_fault { result ≡ SINK_FAULT → Rose (H.now host.old).sink_faults (H.now host.new).sink_faults }
+    ensures not_a_store { H.tells_image → result ≡ NOT_A_STORE → (at : ℕ) × (opens (H.now host.old).image ≡ Err at) }
+    ensures refused { H.tells_image → (at : ℕ) → opens (H.now host.old).image ≡ Err at → (result ≡ NOT_A_STORE) ⊎ (result ≡ USAGE) ⊎ (result ≡ INPUT_FAULT) ⊎ (result ≡ STORE_FAULT) ⊎ (result ≡ MEMORY) }
+    ensures too_long { result ≡ INPUT_TOO_LONG → (H.now host.new).taken ≡ b.now.input }
+    ensures too_long_input { H.tells_input → result ≡ INPUT_TOO_LONG → b.now.input ≤ length (H.now host.old).left }
+    ensures status { IsStatus result }
+    ensures completeness { H.tells_image → (targets : List (List ℕ × ℤ)) → opens (H.now host.old).image ≡ Ok targets → NoneRose (H.now host.old) (H.now host.new)
+        → (result ≡ COMPLETE) ⊎ (result ≡ USAGE) ⊎ (result ≡ INPUT_TOO_LONG) ⊎ (result ≡ MEMORY) }
+
+    // What stays, and what was chosen.
+    ensures usage_nothing { result ≡ USAGE → host.new ≡ host.old }
+    ensures untouched { H.tells_image → result ≡ NOT_A_STORE → IsUntouched (H.now host.old) (H.now host.new) }
+    ensures chosen { H.tells_chosen → (store : List ℕ) → store_named (map (λ word. word.now) words.now) ≡ Some store
+        → ((H.now host.new).chosen ≡ chose store (H.now host.old).chosen) ⊎ (((H.now host.new).chosen ≡ (H.now host.old).chosen) × ((result ≡ INPUT_FAULT) ⊎ (result ≡ STORE_FAULT) ⊎ (result ≡ MEMORY))) }
+    ensures none_fell { NoneFell (H.now host.old) (H.now host.new) }
+
+    // At every moment of the run: what was said is a front of the session's output, and every image that a stop may leave
+    // opens to the workspace after some of the items, which are all of whose reply a byte was said.
+    ensures headline { H.tells_image → H.tells_said → H.tells_input → IsStill H.clock H.stopped host.old (H.now host.old).image
+        → (work : Work) → IsStart (H.now host.old).image work
+        → (c s : List ℕ) → H.stopped host.new (H.clock host.old) c s → IsSessionPoint b.now.image 1 work (items_in b.now.input (H.now host.old).left) (H.now host.old).said c s }
+    ensures last { H.tells_image → H.tells_said → H.tells_input → IsStill H.clock H.stopped host.old (H.now host.old).image → result ≡ COMPLETE
+        → (work : Work) → IsStart (H.now host.old).image work
+        → (c s : List ℕ) → H.stopped host.new (H.clock host.new) c s → opens c ≡ Ok (after b.now.image 1 work (items_in b.now.input (H.now host.old).left)).targets }
+{
+    let Some(store) = store_of(words) else {
+        return USAGE;
+    };
+    match host.choose(store, None) {
+        Ok(()) => run_store(alloc, host, b),
+        Err(ChooseFault::Store) => STORE_FAULT,
+        Err(ChooseFault::Input) => INPUT_FAULT,
+    }
+}
+
+/// Runs with the bounds of the product: 2^40 bytes of image and of input. This is the whole program.
+pub fn run<H: Host>(alloc: Global, words: &[&str], host: &mut H) -> u8
+    // A complete run.
+    ensures complete { H.tells_image → H.tells_said → H.tells_input → result ≡ COMPLETE → IsComplete IMAGE_BOUND INPUT_BOUND (H.now host.old) (H.now host.new) }
+
+    // When each other status comes.
+    ensures usage { (result ≡ USAGE) ↔ (store_named (map (λ word. word.now) words.now) ≡ None) }
+    ensures input_fault { result ≡ INPUT_FAULT → Rose (H.now host.old).input_faults (H.now host.new).input_faults }
+    ensures store_fault { result ≡ STORE_FAULT → Rose (H.now host.old).store_faults (H.now host.new).store_faults }
+    ensures sink_fault { result ≡ SINK_FAULT → Rose (H.now host.old).sink_faults (H.now host.new).sink_faults }
+    ensures not_a_store { H.tells_image → result ≡ NOT_A_STORE → (at : ℕ) × (opens (H.now host.old).image ≡ Err at) }
+    ensures refused { H.tells_image → (at : ℕ) → opens (H.now host.old).image ≡ Err at → (result ≡ NOT_A_STORE) ⊎ (result ≡ USAGE) ⊎ (result ≡ INPUT_FAULT) ⊎ (result ≡ STORE_FAULT) ⊎ (result ≡ MEMORY) }
+    ensures too_long { result ≡ INPUT_TOO_LONG → (H.now host.new).taken ≡ INPUT_BOUND }
+    ensures too_long_input { H.tells_input → result ≡ INPUT_TOO_LONG → INPUT_BOUND ≤ length (H.now host.old).left }
+    ensures status { IsStatus result }
+    ensures completeness { H.tells_image → (targets : List (List ℕ × ℤ)) → opens (H.now host.old).image ≡ Ok targets → NoneRose (H.now host.old) (H.now host.new)
+        → (result ≡ COMPLETE) ⊎ (result ≡ USAGE) ⊎ (result ≡ INPUT_TOO_LONG) ⊎ (result ≡ MEMORY) }
+
+    // What stays, and what was chosen.
+    ensures usage_nothing { result ≡ USAGE → host.new ≡ host.old }
+    ensures untouched { H.tells_image → result ≡ NOT_A_STORE → IsUntouched (H.now host.old) (H.now host.new) }
+    ensures chosen { H.tells_chosen → (store : List ℕ) → store_named (map (λ word. word.now) words.now) ≡ Some store
+        → ((H.now host.new).chosen ≡ chose store (H.now host.old).chosen) ⊎ (((H.now host.new).chosen ≡ (H.now host.old).chosen) × ((result ≡ INPUT_FAULT) ⊎ (result ≡ STORE_FAULT) ⊎ (result ≡ MEMORY))) }
+    ensures none_fell { NoneFell (H.now host.old) (H.now host.new) }
+
+    // At every moment of the run: what was said is a front of the session's output, and every image that a stop may leave
+    // opens to the workspace after some of the items, which are all of whose reply a byte was said.
+    ensures headline { H.tells_image → H.tells_said → H.tells_input → IsStill H.clock H.stopped host.old (H.now host.old).image
+        → (work : Work) → IsStart (H.now host.old).image work
+        → (c s : List ℕ) → H.stopped host.new (H.clock host.old) c s → IsSessionPoint IMAGE_BOUND 1 work (items_in INPUT_BOUND (H.now host.old).left) (H.now host.old).said c s }
+    ensures last { H.tells_image → H.tells_said → H.tells_input → IsStill H.clock H.stopped host.old (H.now host.old).image → result ≡ COMPLETE
+        → (work : Work) → IsStart (H.now host.old).image work
+        → (c s : List ℕ) → H.stopped host.new (H.clock host.new) c s → opens c ≡ Ok (after IMAGE_BOUND 1 work (items_in INPUT_BOUND (H.now host.old).left)).targets }
+{
+    let bounds = Bounds {
+        input: INPUT_BOUND,
+        image: IMAGE_BOUND,
+        checkpoint: CHECKPOINT_BOUND,
+    };
+    run_within(alloc, words, host, &bounds)
+}

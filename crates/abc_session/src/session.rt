@@ -1,0 +1,130 @@
+//! The session: items one after the other, to the end of the input.
+ghost use Rattle.std.specs.Prelude.{◌≡◌, ◌≤◌, ◌<◌, ◌^◌, ◌⊎◌, ◌++◌, suc, [], true, false, List, ℕ, length, take, ◌+◌, Ok, IfOk, OnOk, OnErr, IsOk, IsErrOf, IsTrue, if◌then◌else◌};
+ghost use Rattle.abc_outside.specs.Outside.{Outside, Rose};
+ghost use Rattle.abc_outside.specs.Stop.{Leaves, IsQuiet};
+ghost use Rattle.abc_outside.specs.Session.{joined, HasServed};
+ghost use Rattle.abc_session.specs.Lines.{items_of, lines_of};
+ghost use Rattle.abc_session.specs.Reading.{lines_left, used_of};
+ghost use Rattle.abc_session.specs.Session.{Work, after, replies};
+ghost use Rattle.abc_session.specs.Serving.{work_of, works, Holds, IsSessionPoint, NoneFell};
+
+use crate::reader::{LineStop, Reader};
+use crate::serve::{ServeStop, serve_item};
+use crate::store::Store;
+use abc_outside::Host;
+use std::alloc::Global;
+
+/// Why a session ends before the end of its input.
+#[derive(Clone, Copy, Debug, PartialEq, Eq)]
+pub(crate) enum SessionStop {
+    Input,
+    Long,
+    StoreFault,
+    SinkFault,
+    Memory,
+}
+
+/// Serves the next line, if it is an item. False at the end of the input.
+fn turn<H: Host>(
+    alloc: Global,
+    store: &mut Store,
+    host: &mut H,
+    reader: &mut Reader,
+    served: &mut u64,
+) -> Result<bool, SessionStop>
+    requires sound { IsTrue store.old.journal.sound }
+    requires holds { H.tells_image → Holds (H.now host.old).image (work_of store.old) }
+    requires same_count { (H.now host.old).taken ≡ reader.old.taken }
+    requires ended { H.tells_input → reader.old.ended ≡ true → (H.now host.old).left ≡ [] }
+    requires counted { served.old ≤ used_of reader.old }
+
+    ensures goes_on { H.tells_input → IfOk result (λ more. HasServed
+        (works store.old.journal.bounds.image (suc served.old) (work_of store.old) (items_of (lines_left reader.old (H.now host.old).left)))
+        (replies store.old.journal.bounds.image (suc served.old) (work_of store.old) (items_of (lines_left reader.old (H.now host.old).left)))
+        (works store.old.journal.bounds.image (suc served.new) (work_of store.new) (if more then items_of (lines_left reader.new (H.now host.new).left) else []))
+        (replies store.old.journal.bounds.image (suc served.new) (work_of store.new) (if more then items_of (lines_left reader.new (H.now host.new).left) else []))
+        H.tells_said (H.now host.old).said (H.now host.new).said) }
+    ensures end { H.tells_input → result ≡ Ok false → (H.now host.new).left ≡ [] }
+    ensures end_bound { result ≡ Ok false → reader.new.taken < reader.new.bound }
+
+    ensures input_fault { IsErrOf result SessionStop.Input → Rose (H.now host.old).input_faults (H.now host.new).input_faults }
+    ensures store_fault { IsErrOf result SessionStop.StoreFault → Rose (H.now host.old).store_faults (H.now host.new).store_faults }
+    ensures sink_fault { IsErrOf result SessionStop.SinkFault → Rose (H.now host.old).sink_faults (H.now host.new).sink_faults }
+    ensures long { IsErrOf result SessionStop.Long → reader.new.taken ≡ reader.new.bound }
+
+    ensures falls { result ≡ Ok true → used_of reader.old < used_of reader.new }
+    ensures counted { OnOk result (served.new ≤ used_of reader.new) }
+    ensures total { H.tells_input → reader.new.taken + length (H.now host.new).left ≡ reader.old.taken + length (H.now host.old).left }
+    ensures counts { (H.now host.new).taken ≡ reader.new.taken }
+    ensures ended { H.tells_input → OnOk result (reader.new.ended ≡ true → (H.now host.new).left ≡ []) }
+    ensures input_bound { reader.new.bound ≡ reader.old.bound }
+    ensures holds { H.tells_image → OnOk result (Holds (H.now host.new).image (work_of store.new)) }
+    ensures bounds { store.new.journal.bounds ≡ store.old.journal.bounds }
+    ensures sound { OnOk result (IsTrue store.new.journal.sound) }
+    ensures chosen { (H.now host.new).chosen ≡ (H.now host.old).chosen }
+    ensures none_fell { NoneFell (H.now host.old) (H.now host.new) }
+
+    // At every moment of the call, and at its end.
+    ensures stops { H.tells_image → H.tells_said → H.tells_input → IsQuiet H.clock H.stopped host.old (H.now host.old).image
+        → Leaves H.clock H.stopped host.old host.new (IsSessionPoint store.old.journal.bounds.image (suc served.old) (work_of store.old)
+        (items_of (lines_left reader.old (H.now host.old).left)) (H.now host.old).said) }
+    ensures quiet { H.tells_image → IsQuiet H.clock H.stopped host.old (H.now host.old).image
+        → OnOk result (IsQuiet H.clock H.stopped host.new (H.now host.new).image) }
+{
+    let line = match reader.next(host) {
+        Ok(Some(line)) => line,
+        Ok(None) => return Ok(false),
+        Err(LineStop::Input) => return Err(SessionStop::Input),
+        Err(LineStop::Long) => return Err(SessionStop::Long),
+        Err(LineStop::Memory) => return Err(SessionStop::Memory),
+    };
+    if line.is_blank() {
+        return Ok(true);
+    }
+    *served += 1;
+    match serve_item(alloc, store, host, &line, *served) {
+        Ok(()) => Ok(true),
+        Err(ServeStop::StoreFault) => Err(SessionStop::StoreFault),
+        Err(ServeStop::SinkFault) => Err(SessionStop::SinkFault),
+        Err(ServeStop::Memory) => Err(SessionStop::Memory),
+    }
+}
+
+/// Serves the items of the input in order, each of them kept and then answered.
+pub(crate) fn serve_all<H: Host>(
+    alloc: Global,
+    store: &mut Store,
+    host: &mut H,
+    bound: u64,
+) -> Result<(), SessionStop>
+    requires sound { IsTrue store.old.journal.sound }
+    requires holds { H.tells_image → Holds (H.now host.old).image (work_of store.old) }
+    requires none_taken { (H.now host.old).taken ≡ 0 }
+
+    ensures said { H.tells_said → H.tells_input → OnOk result ((H.now host.new).said ≡ (H.now host.old).said
+        ++ joined (replies store.old.journal.bounds.image 1 (work_of store.old) (items_of (lines_of bound (H.now host.old).left)))) }
+    ensures work { H.tells_input → OnOk result (work_of store.new ≡ after store.old.journal.bounds.image 1 (work_of store.old) (items_of (lines_of bound (H.now host.old).left))) }
+    ensures holds { H.tells_image → OnOk result (Holds (H.now host.new).image (work_of store.new)) }
+    ensures read { H.tells_input → OnOk result ((H.now host.new).left ≡ []) }
+    ensures in_bound { H.tells_input → OnOk result (length (H.now host.old).left < bound) }
+
+    ensures long { IsErrOf result SessionStop.Long → (H.now host.new).taken ≡ bound }
+    ensures long_input { H.tells_input → IsErrOf result SessionStop.Long → bound ≤ length (H.now host.old).left }
+    ensures input_fault { IsErrOf result SessionStop.Input → Rose (H.now host.old).input_faults (H.now host.new).input_faults }
+    ensures store_fault { IsErrOf result SessionStop.StoreFault → Rose (H.now host.old).store_faults (H.now host.new).store_faults }
+    ensures sink_fault { IsErrOf result SessionStop.SinkFault → Rose (H.now host.old).sink_faults (H.now host.new).sink_faults }
+    ensures chosen { (H.now host.new).chosen ≡ (H.now host.old).chosen }
+    ensures none_fell { NoneFell (H.now host.old) (H.now host.new) }
+
+    // At every moment of the session, and at its end.
+    ensures stops { H.tells_image → H.tells_said → H.tells_input → IsQuiet H.clock H.stopped host.old (H.now host.old).image
+        → Leaves H.clock H.stopped host.old host.new (IsSessionPoint store.old.journal.bounds.image 1 (work_of store.old)
+        (items_of (lines_of bound (H.now host.old).left)) (H.now host.old).said) }
+    ensures quiet { H.tells_image → IsQuiet H.clock H.stopped host.old (H.now host.old).image
+        → OnOk result (IsQuiet H.clock H.stopped host.new (H.now host.new).image) }
+{
+    let mut reader = Reader::new(alloc, bound);
+    let mut served = 0;
+    'items: while turn(alloc, store, host, &mut reader, &mut served)? {}
+    Ok(())
+}
