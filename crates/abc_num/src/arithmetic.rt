@@ -9,7 +9,7 @@ use crate::reduce::{lowest, product, settle};
 use crate::{Num, NumFault};
 
 impl Num {
-    /// `p / q`.
+    /// The number `p / q`. DivisionByZero where `q` is 0, Overflow where no number is the quotient.
     pub fn ratio(p: i128, q: i128) -> Result<Num, NumFault>
         ensures zero { IsErrOf result NumFault.DivisionByZero ↔ (q ≡ pos 0) }
         ensures value { q ≢ pos 0 → IsRatio p q result }
@@ -20,18 +20,21 @@ impl Num {
         lowest((p < 0) != (q < 0), p.unsigned_abs(), q.unsigned_abs())
     }
 
+    /// The sum, or Overflow where no number is it.
     pub fn add(&self, o: &Num) -> Result<Num, NumFault>
         ensures { IsSum self.now o.now result }
     {
         sum(self.parts(), o.parts())
     }
 
+    /// The difference `self - o`, or Overflow where no number is it.
     pub fn sub(&self, o: &Num) -> Result<Num, NumFault>
         ensures { IsDifference self.now o.now result }
     {
         sum(self.parts(), o.neg().parts())
     }
 
+    /// The product, or Overflow where no number is it.
     pub fn mul(&self, o: &Num) -> Result<Num, NumFault>
         ensures { IsProduct self.now o.now result }
     {
@@ -40,6 +43,7 @@ impl Num {
         product(x.negative != y.negative, x.top, x.bottom, y.top, y.bottom)
     }
 
+    /// The quotient `self / o`. DivisionByZero where `o` is 0, Overflow where no number is the quotient.
     pub fn div(&self, o: &Num) -> Result<Num, NumFault>
         ensures zero { IsErrOf result NumFault.DivisionByZero ↔ (o.now.numerator ≡ pos 0) }
         ensures value { o.now.numerator ≢ pos 0 → IsQuotient self.now o.now result }
@@ -52,7 +56,8 @@ impl Num {
         product(x.negative != y.negative, x.top, x.bottom, y.bottom, y.top)
     }
 
-    /// `self - n * floor(self / n)`: the rest has the sign of `n`.
+    /// The rest `self - n * floor(self / n)`, which has the sign of `n`. DivisionByZero where `n` is 0, Overflow where no
+    /// number is the rest.
     pub fn modulo(&self, n: &Num) -> Result<Num, NumFault>
         ensures zero { IsErrOf result NumFault.DivisionByZero ↔ (n.now.numerator ≡ pos 0) }
         ensures value { n.now.numerator ≢ pos 0 → IsRest self.now n.now result }

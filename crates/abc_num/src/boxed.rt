@@ -26,6 +26,7 @@ impl<T> Boxed<T> {
         &self.inner
     }
 
+    /// The value, out of its box.
     pub fn into_inner(self) -> T
         ensures { result ≡ self }
     {

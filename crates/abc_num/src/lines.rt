@@ -11,4 +11,5 @@ pub struct Line {
     pub long: bool,
 }
 
+/// The lines of one item, in their order.
 pub type ItemLines = Items<Line>;

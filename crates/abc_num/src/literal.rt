@@ -11,7 +11,7 @@ use crate::{Num, NumFault};
 #[derive(Clone, Copy, PartialEq, Eq, Debug)]
 pub struct BadNumber;
 
-/// The number that these digits spell, with or without a point.
+/// The number that these digits spell, with at most one point among them. BadNumber where their value is no number.
 pub fn read_literal(b: &[u8]) -> Result<Num, BadNumber>
     requires { IsNumberToken b.now }
     ensures ok { IfOk result

@@ -27,6 +27,7 @@ impl Model for Names {
 }
 
 impl Names {
+    /// No texts.
     pub fn new(alloc: Global) -> Names
         ensures { result ≡ [] }
     {
@@ -35,7 +36,7 @@ impl Names {
         }
     }
 
-    /// The number of a text, which is added last if it is new.
+    /// The number of a text, which is added last if it is new. After OutOfMemory the texts are as before.
     pub fn number(&mut self, t: Text) -> Result<u32, OutOfMemory>
         requires { length self.old < 2 ^ 32 - 1 }
         ensures names { OnOk result (self.new ≡ with_name self.old t) }
@@ -56,13 +57,14 @@ impl Names {
         Some(i as u32)
     }
 
-    /// The text of number `i`.
+    /// The text of number `i`, if there is one.
     pub fn get(&self, i: u32) -> Option<&Text>
         ensures { option_map (λ t. t.now) result ≡ slice_get self.now i }
     {
         self.texts.get_index(i as usize)
     }
 
+    /// How many texts there are.
     pub fn len(&self) -> usize
         ensures count { result ≡ length self.now }
         ensures different { AreDifferent self.now }

@@ -12,6 +12,7 @@ use std::marker::Model;
 pub enum NumFault {
     /// The mathematical result is no number.
     Overflow,
+    /// The divisor is 0, or 0 has a negative exponent.
     DivisionByZero,
     /// An operand has to be whole and is not.
     NotWhole,
@@ -45,7 +46,7 @@ pub(crate) struct Parts {
 }
 
 impl Num {
-    /// The whole number `n`.
+    /// The whole number `n`. Overflow where `n` is -2^127, which is no number.
     pub fn whole(n: i128) -> Result<Num, NumFault>
         ensures ok { IfOk result (λ x. x ≡ whole_number n) }
         ensures overflow { IsErrOf result NumFault.Overflow ↔ (n ≡ neg_ℤ (pos (2 ^ 127))) }
@@ -86,7 +87,7 @@ impl Num {
         }
     }
 
-    /// The order of numbers: by size.
+    /// The order of the two numbers by size.
     pub fn cmp(&self, o: &Num) -> Ordering
         ensures { result ≡ num_cmp self.now o.now }
     {
@@ -105,6 +106,7 @@ impl Num {
         }
     }
 
+    /// The numerator, in lowest terms and with the number's sign.
     pub fn numerator(&self) -> Num
         ensures { result ≡ whole_number self.now.numerator }
     {
@@ -112,12 +114,14 @@ impl Num {
         Num::of_parts(x.negative, x.top, 1)
     }
 
+    /// The denominator in lowest terms, which is 1 for a whole number.
     pub fn denominator(&self) -> Num
         ensures { result ≡ whole_number (pos self.now.denominator) }
     {
         Num::of_parts(false, self.parts().bottom, 1)
     }
 
+    /// The number with the other sign.
     pub fn neg(&self) -> Num
         ensures { result ≡ fraction (neg_ℤ self.now.numerator) self.now.denominator }
     {
@@ -125,6 +129,7 @@ impl Num {
         Num::of_parts(!x.negative, x.top, x.bottom)
     }
 
+    /// The size of the number, without its sign.
     pub fn abs(&self) -> Num
         ensures { result ≡ fraction (pos (unsigned_abs self.now.numerator)) self.now.denominator }
     {

@@ -10,7 +10,8 @@ use crate::reduce::settle;
 use crate::{Num, NumFault};
 
 impl Num {
-    /// `self` to the `n`; 0 to the 0 is 1.
+    /// `self` to the `n`; 0 to the 0 is 1. NotWhole where `n` is a proper fraction, DivisionByZero for 0 to a negative `n`,
+    /// Overflow where no number is the power.
     pub fn pow(&self, n: &Num) -> Result<Num, NumFault>
         ensures not_whole { IsErrOf result NumFault.NotWhole ↔ (n.now.denominator ≢ 1) }
         ensures zero { IsErrOf result NumFault.DivisionByZero ↔

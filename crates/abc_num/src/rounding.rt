@@ -37,7 +37,8 @@ impl Num {
         whole_near(x, away)
     }
 
-    /// `self` to `n` decimal places; to a ten, a hundred and so on where `n` is negative.
+    /// The number of `n` decimal places that is nearest to `self`, the greater one of two; a negative `n` rounds to tens,
+    /// hundreds and so on. NotWhole where `n` is a proper fraction, Overflow where no number is the result.
     pub fn round_to(&self, n: &Num) -> Result<Num, NumFault>
         ensures not_whole { IsErrOf result NumFault.NotWhole ↔ (n.now.denominator ≢ 1) }
         ensures value { n.now.denominator ≡ 1 → IsRoundedTo self.now n.now.numerator result }

@@ -43,12 +43,14 @@ impl Text {
         Text { bytes }
     }
 
+    /// The bytes of the text.
     pub fn bytes(&self) -> &[u8]
         ensures { result.now ≡ self.now }
     {
         &self.bytes
     }
 
+    /// The bytes of the text as a vector.
     pub fn into_vec(self) -> Vec<u8>
         ensures { result.items ≡ self }
     {

@@ -13,4 +13,5 @@ pub enum Ground {
     Table(Boxed<Ground>, Boxed<Ground>),
 }
 
+/// The types of the fields of a compound, in their order.
 pub type Grounds = Items<Ground>;

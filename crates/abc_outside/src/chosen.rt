@@ -1,4 +1,4 @@
-// What the host in memory keeps of its choices and reads.
+//! What the host in memory keeps of its choices and reads.
 ghost use Rattle.std.specs.Prelude.{◌≡◌, ◌++◌, [], ◌∷◌, map, option_map, string_bytes, IfOk, OnOk, OnErr};
 ghost use Rattle.abc_outside.specs.Names.{names_of};
 

@@ -1,4 +1,4 @@
-// The calls of the host in memory that are to fail.
+//! The calls of the host in memory that are to fail.
 ghost use Rattle.std.specs.Prelude.{◌≡◌, map};
 ghost use Rattle.abc_outside.specs.Failing.{is_due, one_nearer};
 

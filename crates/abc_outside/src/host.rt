@@ -1,4 +1,4 @@
-// The trait that the whole product runs over, and the faults of its calls.
+//! The trait that the whole product runs over, and the faults of its calls.
 ghost use Rattle.std.specs.Prelude.{◌≡◌, ◌≤◌, ◌<◌, ◌+◌, ◌-◌, ◌^◌, ◌++◌, [], ◌∷◌, List, ℕ, option_map, length, take, drop, min, IfOk, OnOk, OnErr, IsSome, IsErrOf};
 ghost use Rattle.abc_outside.specs.Outside.{Outside, Rose, KeepsButStore, KeepsButInput, KeepsButSaid, KeepsButChoice};
 ghost use Rattle.abc_outside.specs.Stop.{written, Torn, Shortened, Passes};

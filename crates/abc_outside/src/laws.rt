@@ -1,4 +1,4 @@
-// Laws of stops: the stop model in plain words, and what it makes of a session.
+//! Laws of stops: the stop model in plain words, and what it makes of a session.
 ghost use Rattle.std.specs.Prelude.{List, ℕ};
 ghost use Rattle.abc_outside.specs.Ranges.{WriteTears, TornIsWritten, CutShortens, ShortenedIsCut, SyncedIsExact};
 ghost use Rattle.abc_outside.specs.Session.{StopsArePoints, ItemsArePoints, LaterPointsArePoints, HeardPast, WholePast};

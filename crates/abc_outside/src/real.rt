@@ -1,4 +1,4 @@
-// The host over files, standard input and standard output: it keeps its counts alone, and tells nothing of content.
+//! The host over files, standard input and standard output: it keeps its counts alone, and tells nothing of content.
 ghost use Rattle.std.specs.Prelude.{◌≡◌, ◌≤◌, [], IfOk, OnErr, OnOk, Ok};
 ghost use Rattle.abc_outside.specs.Outside.{Rose};
 

@@ -1,5 +1,5 @@
-// The record of the calls that change the host in memory. A step keeps what its call took away,
-// never the whole image, so a call costs what it writes.
+//! The record of the calls that change the host in memory. A step keeps what its call took away,
+//! never the whole image, so a call costs what it writes.
 ghost use Rattle.std.specs.Prelude.{◌≡◌, ◌≤◌, ◌+◌, ◌-◌, ◌++◌, [], ◌∷◌, ℕ, length, take, drop, min, vec_len, vec_capacity, OnOk, OnErr, Vec};
 ghost use Rattle.std.specs.declared.alloc.Global.{Global};
 ghost use Rattle.abc_outside.specs.Stop.{written};

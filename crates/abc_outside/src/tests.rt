@@ -1,4 +1,4 @@
-// What no clause says: that the calls succeed with ample memory, and what stands in real files.
+//! What no clause says: that the calls succeed with ample memory, and what stands in real files.
 use super::*;
 use std::alloc::{AllocError, Global};
 use std::fs;

@@ -231,6 +231,7 @@ fn an_input_as_long_as_its_bound_has_no_end(rt: HostRuntime) -> Result<(), Fail>
 
 struct Failing {
     name: &'static str,
+    input: &'static str,
     kind: CallKind,
     n: u64,
     status: u8,
@@ -241,9 +242,12 @@ struct Failing {
 
 const NO_X: &str = "[1] fault line 1: Missing RETURN x\n";
 
-const FAILING: [Failing; 6] = [
+const THREE_PUTS: &str = "PUT 1 IN x\nPUT 2 IN x\nPUT 3 IN x\n";
+
+const FAILING: [Failing; 7] = [
     Failing {
         name: "the store cannot be chosen",
+        input: THREE_PUTS,
         kind: CallKind::Choose,
         n: 1,
         status: STORE_FAULT,
@@ -252,6 +256,7 @@ const FAILING: [Failing; 6] = [
     },
     Failing {
         name: "the first read",
+        input: THREE_PUTS,
         kind: CallKind::Read,
         n: 1,
         status: INPUT_FAULT,
@@ -260,6 +265,7 @@ const FAILING: [Failing; 6] = [
     },
     Failing {
         name: "the read that finds the end",
+        input: THREE_PUTS,
         kind: CallKind::Read,
         n: 2,
         status: INPUT_FAULT,
@@ -268,6 +274,7 @@ const FAILING: [Failing; 6] = [
     },
     Failing {
         name: "the second write of the third item",
+        input: THREE_PUTS,
         kind: CallKind::WriteAt,
         n: 7,
         status: STORE_FAULT,
@@ -276,6 +283,7 @@ const FAILING: [Failing; 6] = [
     },
     Failing {
         name: "the last sync",
+        input: THREE_PUTS,
         kind: CallKind::Sync,
         n: 7,
         status: STORE_FAULT,
@@ -284,11 +292,21 @@ const FAILING: [Failing; 6] = [
     },
     Failing {
         name: "the second reply",
+        input: THREE_PUTS,
         kind: CallKind::Say,
         n: 8,
         status: SINK_FAULT,
         said: "[1] ok\n",
         found: "2\n[1] ok\n",
+    },
+    Failing {
+        name: "the second byte of a reply",
+        input: "WRITE 1\n",
+        kind: CallKind::Say,
+        n: 2,
+        status: SINK_FAULT,
+        said: "1",
+        found: NO_X,
     },
 ];
 
@@ -297,7 +315,7 @@ const FAILING: [Failing; 6] = [
 fn a_call_that_fails_ends_the_run(rt: HostRuntime) -> Result<(), Fail> {
     let alloc = rt.alloc();
     for row in &FAILING {
-        let mut host = host_of(alloc, &[], "PUT 1 IN x\nPUT 2 IN x\nPUT 3 IN x\n")?;
+        let mut host = host_of(alloc, &[], row.input)?;
         host.say_at_most(1);
         host.fail_at(row.kind, row.n)?;
         assert_eq!(rt; run(alloc, &WORDS, &mut host), row.status, "{}", row.name);
@@ -305,6 +323,79 @@ fn a_call_that_fails_ends_the_run(rt: HostRuntime) -> Result<(), Fail> {
         let mut again = host_of(alloc, host.image(), "WRITE x\n")?;
         run(alloc, &WORDS, &mut again);
         assert_eq!(rt; again.said(), row.found.as_bytes(), "{}", row.name);
+    }
+    Ok(())
+}
+
+struct Payload {
+    name: &'static str,
+    bytes: &'static [u8],
+    status: u8,
+}
+
+const PAYLOADS: [Payload; 8] = [
+    Payload {
+        name: "no changes",
+        bytes: &[0, 0, 0, 0],
+        status: COMPLETE,
+    },
+    Payload {
+        name: "the name of an operation, and -1",
+        bytes: &[
+            0, 0, 0, 1, 1, 0, 0, 0, 3, 0x6d, 0x69, 0x6e, 0, 255, 255, 255, 255, 255, 255, 255, 255,
+            255, 255, 255, 255, 255, 255, 255, 255,
+        ],
+        status: COMPLETE,
+    },
+    Payload {
+        name: "no count",
+        bytes: &[0, 0, 0],
+        status: NOT_A_STORE,
+    },
+    Payload {
+        name: "fewer changes than their count",
+        bytes: &[0, 0, 0, 1],
+        status: NOT_A_STORE,
+    },
+    Payload {
+        name: "a byte behind the changes",
+        bytes: &[0, 0, 0, 0, 0],
+        status: NOT_A_STORE,
+    },
+    Payload {
+        name: "-2^127",
+        bytes: &[
+            0, 0, 0, 1, 1, 0, 0, 0, 1, 0x78, 0, 128, 0, 0, 0, 0, 0, 0, 0, 0, 0, 0, 0, 0, 0, 0, 0,
+        ],
+        status: NOT_A_STORE,
+    },
+    Payload {
+        name: "a capital in the name",
+        bytes: &[
+            0, 0, 0, 1, 1, 0, 0, 0, 1, 0x58, 0, 0, 0, 0, 0, 0, 0, 0, 0, 0, 0, 0, 0, 0, 0, 0, 0,
+        ],
+        status: NOT_A_STORE,
+    },
+    Payload {
+        name: "a value of another kind",
+        bytes: &[
+            0, 0, 0, 1, 1, 0, 0, 0, 1, 0x78, 1, 0, 0, 0, 0, 0, 0, 0, 0, 0, 0, 0, 0, 0, 0, 0, 0,
+        ],
+        status: NOT_A_STORE,
+    },
+];
+
+#[test]
+fn a_payload_is_spelled_or_the_image_is_no_store(rt: HostRuntime) -> Result<(), Fail> {
+    let alloc = rt.alloc();
+    for row in &PAYLOADS {
+        let mut image = store_of(alloc, &[1])?;
+        image.extend_from_slice(&(row.bytes.len() as u64).to_be_bytes())?;
+        image.extend_from_slice(row.bytes)?;
+        image.push(0)?;
+        let mut host = host_of(alloc, &image, "")?;
+        assert_eq!(rt; run(alloc, &WORDS, &mut host), row.status, "{}", row.name);
+        assert_eq!(rt; host.image(), image.as_slice(), "{}", row.name);
     }
     Ok(())
 }
