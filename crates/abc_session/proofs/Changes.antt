@@ -3,8 +3,7 @@ use Rattle.std.proofs.Common.{◌≡◌, ℕ, suc, ◌<◌, ◌≤◌, ◌==◌,
 use Rattle.std.specs.Prelude.{option_and_then}
 use Rattle.std.proofs.lemmas.Bool.Decides.{nat_tests}
 use Rattle.abc_session.specs.Targets.{Targets, with_value}
-use Rattle.abc_session.specs.Record.{Change, change_at, changes_from, changes_of, with_changes, four_at}
-use Rattle.abc_session.specs.RecordView.{applied}
+use Rattle.abc_session.specs.Record.{Change, change_at, changes_from, changes_of, with_changes, four_at, applied}
 
 abbrev pub made : ℕ → List ℕ → Targets → Option Targets
 made count bytes targets = option_map (λ changes. with_changes changes targets) (changes_from count bytes)

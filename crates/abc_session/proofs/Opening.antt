@@ -10,7 +10,7 @@ use Rattle.abc_journal.specs.Journal.{HasLayout, IsSame, IsBeforeOrAfter}
 use Rattle.abc_journal.proofs.Image.{settled_twice, settled_long, settled_short, opened_extended}
 use Rattle.abc_session.specs.Targets.{Targets}
 use Rattle.abc_session.specs.Workspace.{opens, targets_in, targets_from}
-use Rattle.abc_session.specs.RecordView.{applied}
+use Rattle.abc_session.specs.Record.{applied}
 use Rattle.abc_session.proofs.Replay.{any_gate, with_last}
 
 pub opens_of : (image : List ℕ) (o : Opened) → opened image ≡ Ok o → opens image ≡ targets_from o.layout.start [] o.payloads

@@ -2,7 +2,7 @@
 use Rattle.std.proofs.Common.{◌≡◌, ℕ, ◌+◌, List, [], ◌∷◌, ◌++◌, length, Option, Some, None, ◌∙◌, ap}
 use Rattle.std.specs.Prelude.{Ok, Err}
 use Rattle.abc_session.specs.Targets.{Targets}
-use Rattle.abc_session.specs.RecordView.{applied}
+use Rattle.abc_session.specs.Record.{applied}
 use Rattle.abc_session.specs.Workspace.{targets_from, if_spelled}
 
 pub next_made : (gate : ℕ) (targets later : Targets) (payload : List ℕ) (payloads : List (List ℕ)) → applied payload targets ≡ Some later

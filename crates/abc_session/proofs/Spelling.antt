@@ -9,8 +9,7 @@ use Rattle.std.proofs.Math.Facts.{Fits-of_z}
 use Rattle.std.proofs.lemmas.Bool.{le-leb}
 use Rattle.abc_session.specs.Command.{is_some_of, is_letter}
 use Rattle.abc_session.specs.Targets.{Targets, with_value}
-use Rattle.abc_session.specs.Record.{in_four, four_at, in_eight, eight_at, spelled_number, spelled_text, spelled_change, spelled, text_at, bits_at, number_at, named, change_at}
-use Rattle.abc_session.specs.RecordView.{applied}
+use Rattle.abc_session.specs.Record.{in_four, four_at, in_eight, eight_at, spelled_number, spelled_text, spelled_change, spelled, text_at, bits_at, number_at, named, change_at, applied}
 use Rattle.abc_session.proofs.Numbers.{number_found}
 use Rattle.abc_session.proofs.Changes.{made, made_first, applied_is}
 

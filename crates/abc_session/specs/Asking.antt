@@ -8,5 +8,6 @@ pub record Asked (P : ℕ × ℕ → Type 0) (old new : List (ℕ × ℕ)) : Typ
   pub is : new ≡ old ++ extra
   pub each : AllByRecursion P extra
 
+-- asked where so many bytes were taken, and so many said
 abbrev pub AsksNow : ℕ → ℕ → ℕ × ℕ → Type 0
 AsksNow taken spoken ask = (ask.0 ≡ taken) × (ask.1 ≡ spoken)

@@ -8,15 +8,18 @@ use Rattle.abc_session.specs.declared.command.Source.TheVariants.{Number, Target
 use Rattle.abc_session.specs.declared.command.Command.{Command}
 use Rattle.abc_session.specs.declared.command.Command.TheVariants.{Put, Write}
 
+-- a value of the code
 abbrev pub source_of : Source → form.Source
 source_of (Number value) = form.number value
 source_of (Target name) = form.target name.now
 
+-- a command of the code, or none
 abbrev pub form_of_command : Option Command → Form
 form_of_command None = other
 form_of_command (Some (Put value name)) = put (source_of value) name.now
 form_of_command (Some (Write value)) = write (source_of value)
 
+-- a value of the code, or none
 abbrev pub source_of_option : Option Source → Option form.Source
 source_of_option found = option_map source_of found
 

@@ -8,6 +8,7 @@ pub record Line : Type 0 where
   pub text : List ℕ
   pub long : Bool
 
+-- the line of these bytes
 abbrev pub line_of : List ℕ → Line
 line_of bytes = record { text = take MOST_LINE_BYTES bytes; long = nat_lt MOST_LINE_BYTES (length bytes) }
 
@@ -22,6 +23,7 @@ abbrev pub cut_at_lf : Bool → List ℕ → List (List ℕ)
 cut_at_lf ends [] = []
 cut_at_lf ends (byte ∷ bytes) = if byte == 10 then [] ∷ cut_at_lf ends bytes else onto ends byte (cut_at_lf ends bytes)
 
+-- the lines of these bytes, which end there or are cut there
 abbrev pub lines_by : Bool → List ℕ → List Line
 lines_by ends bytes = map line_of (cut_at_lf ends bytes)
 

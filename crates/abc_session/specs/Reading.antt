@@ -5,6 +5,7 @@ use Rattle.abc_session.specs.Lines.{Line, line_of, lines_by, cut_at_lf}
 use Rattle.abc_session.specs.declared.line.Line as code
 use Rattle.abc_session.specs.declared.reader.Reader.{Reader}
 
+-- the line that the code holds
 abbrev pub shown : code.Line → Line
 shown line = record { text = line.text.items; long = line.long }
 
@@ -24,6 +25,7 @@ bytes_left reader left = pending_of reader ++ take (reader.bound - reader.taken)
 abbrev pub lines_left : Reader → List ℕ → List Line
 lines_left reader left = lines_by (nat_lt (reader.taken + length left) reader.bound) (bytes_left reader left)
 
+-- there is no LF among the bytes
 abbrev pub HasNoLf : List ℕ → Type 0
 HasNoLf bytes = AllByRecursion (λ byte. byte ≡ 10 → ⊥) bytes
 

@@ -71,6 +71,11 @@ changes_from (suc count) bytes = option_and_then (λ first. option_map (λ chang
 unfoldable pub changes_of : List ℕ → Option (List Change)
 changes_of payload = if nat_le 4 (length payload) then changes_from (four_at payload) (drop 4 payload) else None
 
+-- the targets after these changes, one after the other
 abbrev pub with_changes : List Change → Targets → Targets
 with_changes [] targets = targets
 with_changes (change ∷ changes) targets = with_changes changes (with_value change.0 change.1 targets)
+
+-- the targets after the changes of a payload, where it spells some
+abbrev pub applied : List ℕ → Targets → Option Targets
+applied payload targets = option_map (λ changes. with_changes changes targets) (changes_of payload)

@@ -6,9 +6,11 @@ use Rattle.std.specs.Fmt.{signed_decimal}
 abbrev pub reply_line : ℕ → List ℕ → List ℕ
 reply_line k text = codes "[" ++ decimal k ++ codes "] " ++ text ++ 10 ∷ []
 
+-- the command ran
 abbrev pub ok_reply : ℕ → List ℕ
 ok_reply k = reply_line k (codes "ok")
 
+-- the command was refused
 abbrev pub fault_reply : ℕ → List ℕ → List ℕ
 fault_reply k name = reply_line k (codes "fault line 1: " ++ name)
 

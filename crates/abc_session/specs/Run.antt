@@ -47,6 +47,7 @@ chose store chosen = chosen ++ (store, None) ∷ []
 abbrev pub IsRunStatus : ℕ → Type 0
 IsRunStatus status = (status ≡ COMPLETE) ⊎ (status ≡ INPUT_FAULT) ⊎ (status ≡ STORE_FAULT) ⊎ (status ≡ SINK_FAULT) ⊎ (status ≡ NOT_A_STORE) ⊎ (status ≡ MEMORY) ⊎ (status ≡ INPUT_TOO_LONG)
 
+-- one of the statuses of a run
 abbrev pub IsStatus : ℕ → Type 0
 IsStatus status = (status ≡ USAGE) ⊎ IsRunStatus status
 

@@ -8,6 +8,7 @@ use Rattle.abc_session.specs.Workspace.{opens}
 use Rattle.abc_session.specs.Session.{Work, outcome, after, replies}
 use Rattle.abc_session.specs.declared.store.Store.{Store}
 
+-- the image opens to the targets of this work
 abbrev pub OpensTo : List ℕ → Work → Type 0
 OpensTo image work = opens image ≡ Ok work.targets
 

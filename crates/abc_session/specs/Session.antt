@@ -29,6 +29,7 @@ put_outcome bound k work name value =
     else (if nat_lt bound (need_of work.layout (length (spelled (name, value)))) then record { reply = fault_reply k (codes "StoreFull"); work = work }
     else record { reply = ok_reply k; work = stored work name value })
 
+-- what comes of the value that was found; without one the name is missing
 abbrev pub or_missing : ℕ → Work → List ℕ → Option ℤ → (ℤ → Outcome) → Outcome
 or_missing k work name None run = record { reply = missing_reply k name; work = work }
 or_missing k work name (Some value) run = run value
@@ -44,6 +45,7 @@ outcome_of bound k work (put source name) = with_source k work source (put_outco
 outcome_of bound k work (write source) = with_source k work source (λ value. record { reply = value_reply k value; work = work })
 outcome_of bound k work other = record { reply = fault_reply k (codes "NotYet"); work = work }
 
+-- item k, by its line
 abbrev pub outcome : ℕ → ℕ → Work → Line → Outcome
 outcome bound k work line = outcome_of bound k work (form_of line)
 

@@ -5,6 +5,7 @@ use Rattle.std.specs.Ordering.{nat_cmp, int_eq}
 use Rattle.std.specs.List.{AllByRecursion}
 use Rattle.std.specs.BTreeMap.{insert_entry}
 
+-- names, each with its value
 abbrev pub Targets : Type 0
 Targets = List (List ℕ × ℤ)
 
@@ -12,9 +13,11 @@ Targets = List (List ℕ × ℤ)
 abbrev pub IsNumber : ℤ → Type 0
 IsNumber value = value ≡ neg_ℤ (pos (2 ^ 127)) → ⊥
 
+-- each value is a number
 abbrev pub AreNumbers : Targets → Type 0
 AreNumbers targets = AllByRecursion (λ target. IsNumber target.1) targets
 
+-- the value of a name, where it has one
 abbrev pub value_of : List ℕ → Targets → Option ℤ
 value_of name [] = None
 value_of name (target ∷ targets) = if bytes_eq name target.0 then Some target.1 else value_of name targets

@@ -3,7 +3,7 @@ use Rattle.std.specs.Prelude.{ℕ, ◌+◌, List, [], ◌∷◌, length, Option,
 use Rattle.abc_journal.specs.declared.format.TheConstants.{RECORD_EXTRA}
 use Rattle.abc_journal.specs.Image.{Opened, opened}
 use Rattle.abc_session.specs.Targets.{Targets}
-use Rattle.abc_session.specs.RecordView.{applied}
+use Rattle.abc_session.specs.Record.{applied}
 
 -- what comes of the targets after a record, or the place of the gate of a record that spells no changes
 abbrev pub if_spelled : ℕ → Option Targets → (Targets → Result Targets ℕ) → Result Targets ℕ
@@ -16,6 +16,7 @@ targets_from gate targets [] = Ok targets
 targets_from gate targets (payload ∷ payloads) =
     if_spelled gate (applied payload targets) (λ later. targets_from (gate + RECORD_EXTRA + length payload) later payloads)
 
+-- the targets of an image that was opened
 abbrev pub targets_in : Result Opened ℕ → Result Targets ℕ
 targets_in (Ok o) = targets_from o.layout.start [] o.payloads
 targets_in (Err at) = Err at

@@ -1,8 +1,8 @@
 //! The records of the store: a change as bytes, and bytes as changes.
 ghost use Rattle.std.specs.Prelude.{◌≡◌, ◌≤◌, ◌<◌, ◌^◌, length, take, ◌++◌, None, Some, IfOk, OnOk, IfSome, if◌then◌else◌};
-ghost use Rattle.abc_session.specs.Record.{in_four, in_eight, four_at, eight_at, spelled, spelled_text, spelled_number, text_at, number_at, change_at};
+ghost use Rattle.abc_session.specs.Record.{in_four, in_eight, four_at, eight_at, spelled, spelled_text, spelled_number, text_at, number_at, change_at, applied};
 ghost use Rattle.abc_session.specs.Targets.{IsNumber};
-ghost use Rattle.abc_session.specs.RecordView.{texts_of, number_and_rest, change_and_rest, applied};
+ghost use Rattle.abc_session.specs.RecordView.{texts_of, number_and_rest, change_and_rest};
 
 use crate::command::is_name;
 use crate::targets::Targets;

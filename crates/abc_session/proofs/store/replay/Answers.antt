@@ -1,7 +1,7 @@
 use Rattle.std.proofs.Common.{◌≡◌, ◌∙◌, ◌∷◌, ◌+◌, ℕ, List, length, drop, Some, None, sym, ap}
 use Rattle.std.proofs.lemmas.List.{drop_more, drop_all}
 use Rattle.abc_session.specs.Workspace.{targets_from}
-use Rattle.abc_session.specs.RecordView.{applied}
+use Rattle.abc_session.specs.Record.{applied}
 use Rattle.abc_session.proofs.Replay.{next_made, next_refused}
 use Rattle.abc_session.proofs.store.replay.Goals as goal
 

@@ -1,7 +1,6 @@
 use Rattle.std.proofs.Common.{rules, ◌≡◌, ◌∙◌, ℕ, List, Some, sym, ap}
 use Rattle.abc_session.specs.Targets.{with_value}
-use Rattle.abc_session.specs.Record.{spelled}
-use Rattle.abc_session.specs.RecordView.{applied}
+use Rattle.abc_session.specs.Record.{spelled, applied}
 use Rattle.abc_session.proofs.Spelling.{applied_one}
 use Rattle.abc_session.proofs.Opening.{append_stops, holds_after}
 use Rattle.abc_session.proofs.store.Store.put.Goals as goal
