@@ -19,6 +19,11 @@ none_after image said [] t c s stop = stop.0
 none_after image said (x ∷ xs) t c s (inl past) = omega (arith, none_after (image_before x image) (said_before x said) xs t c s past)
 none_after image said (x ∷ xs) t c s (inr now) = now.0
 
+since_earlier : (image said : List ℕ) (steps : List Step) (earlier later : ℕ) (c s : List ℕ) → earlier ≤ later → Stopped image said steps later c s → Stopped image said steps earlier c s
+since_earlier image said [] earlier later c s le stop = (omega (arith, le, stop.0), stop.1, stop.2)
+since_earlier image said (x ∷ xs) earlier later c s le (inl past) = inl (since_earlier (image_before x image) (said_before x said) xs earlier later c s le past)
+since_earlier image said (x ∷ xs) earlier later c s le (inr now) = inr (omega (arith, le, now.0), now.1, now.2)
+
 -- a stop now leaves one of the images, and what was said
 pub now_only : (image said : List ℕ) (steps : List Step) (c s : List ℕ) → Stopped image said steps (length steps) c s → Images image steps c × (s ≡ said)
 now_only image said [] c s stop = (stop.1, stop.2)
@@ -35,6 +40,9 @@ from_now image said steps c s stop = now_only image said (reverse steps) c s (su
 
 pub to_now : (image said : List ℕ) (steps : List Step) (c s : List ℕ) → Images image (reverse steps) c → s ≡ said → Stopped image said (reverse steps) (length steps) c s
 to_now image said steps c s is same = subst (λ n. Stopped image said (reverse steps) n c s) (length-reverse steps) (now_is image said (reverse steps) c s is same)
+
+pub since_memory : (image said : List ℕ) (steps : List Step) (earlier later : ℕ) (c s : List ℕ) → earlier ≤ later → Stopped image said (reverse steps) later c s → Stopped image said (reverse steps) earlier c s
+since_memory image said steps earlier later c s le stop = since_earlier image said (reverse steps) earlier later c s le stop
 
 pub says_now_memory : (image said : List ℕ) (steps : List Step) (c s : List ℕ) → Stopped image said (reverse steps) (length steps) c s → s ≡ said
 says_now_memory image said steps c s stop = (from_now image said steps c s stop).1

@@ -1,6 +1,6 @@
 -- A session as a stop sees it: its workspaces, of which `after k` is the one after k items, and its replies, one an item.
-use Rattle.std.specs.Prelude.{◌≡◌, ◌⊎◌, ◌≤◌, ℕ, suc, ◌+◌, ◌-◌, List, [], ◌∷◌, ◌++◌, length, take, if◌then◌else◌, ◌==◌, nat_lt}
-use Rattle.abc_outside.specs.Stop.{Leaves}
+use Rattle.std.specs.Prelude.{◌≡◌, ◌⊎◌, ◌≤◌, ◌<◌, ℕ, suc, ◌+◌, ◌-◌, List, [], ◌∷◌, ◌++◌, length, take, if◌then◌else◌, ◌==◌, nat_lt}
+use Rattle.abc_outside.specs.Stop.{Leaves, Now}
 
 -- the replies one after the other
 abbrev pub joined : List (List ℕ) → List ℕ
@@ -55,6 +55,33 @@ pub record HasServed {W : Type 0} (after : ℕ → W) (replies : List (List ℕ)
   pub moved : (k : ℕ) → after_left k ≡ after (length done + k)
   pub is_said : tells_said → said_later ≡ said ++ joined done
 
+-- A session that stands between two items: the replies of the first k were said and no byte more, and a stop now leaves an
+-- image that opens to the workspace after them.
+pub record IsBetween {W : Type 0} (opens : List ℕ → W → Type 0) (after : ℕ → W) (replies : List (List ℕ)) (said said_now : List ℕ) (now : List ℕ → List ℕ → Type 0) : Type 0 where
+  pub k : ℕ
+  pub among : k ≤ length replies
+  pub said_is : said_now ≡ said ++ joined (take k replies)
+  pub image : (c s : List ℕ) → now c s → opens c (after k)
+
+-- A session whose store failed: the replies of the first k items were said and no byte more, and a stop now leaves an image
+-- that opens to the workspace after them, or after one item more.
+pub record IsBroken {W : Type 0} (opens : List ℕ → W → Type 0) (after : ℕ → W) (replies : List (List ℕ)) (said said_now : List ℕ) (now : List ℕ → List ℕ → Type 0) : Type 0 where
+  pub k : ℕ
+  pub among : k ≤ length replies
+  pub said_is : said_now ≡ said ++ joined (take k replies)
+  pub image : (c s : List ℕ) → now c s → opens c (after k) ⊎ opens c (after (suc k))
+
+-- A session whose sink failed: after the replies of the first k items a front of the next one was said, and not all of it; a
+-- stop now leaves an image that opens to the workspace after that item.
+pub record IsCutShort {W : Type 0} (opens : List ℕ → W → Type 0) (after : ℕ → W) (replies : List (List ℕ)) (said said_now : List ℕ) (now : List ℕ → List ℕ → Type 0) : Type 0 where
+  pub k : ℕ
+  pub among : k < length replies
+  pub count : ℕ
+  pub said_is : said_now ≡ said ++ take count (joined replies)
+  pub begun : length (joined (take k replies)) ≤ count
+  pub cut : count < length (joined (take (suc k) replies))
+  pub image : (c s : List ℕ) → now c s → opens c (after (suc k))
+
 -- Items of these replies are served one after the other, from one host to the last: it has ended before an item, or was
 -- broken off in it, or served it, so that its whole reply was said, and went on. In each item a stop leaves what it may.
 abbrev pub Serves : {H W : Type 0} (clock : H → ℕ) (stopped : H → ℕ → List ℕ → List ℕ → Type 0) (said : H → List ℕ) (opens : List ℕ → W → Type 0) (after : ℕ → W) (replies : List (List ℕ)) → H → H → Type 0
@@ -88,3 +115,19 @@ HeardPast = (xs rs : List (List ℕ)) (m : ℕ) → heard (xs ++ rs) (length (jo
 
 abbrev pub WholePast : Type 0
 WholePast = (xs rs : List (List ℕ)) (m : ℕ) → length xs + whole rs m ≤ whole (xs ++ rs) (length (joined xs) + m)
+
+-- the endings of what is left are endings of the whole
+abbrev pub LaterIsBetween : {H W : Type 0} (clock : H → ℕ) (stopped : H → ℕ → List ℕ → List ℕ → Type 0) (opens : List ℕ → W → Type 0) → Type 0
+LaterIsBetween {H} {W} clock stopped opens =
+    (after after_left : ℕ → W) (replies left : List (List ℕ)) (first said said_now : List ℕ) (host : H)
+    → HasServed after replies after_left left (Unit {0}) first said → IsBetween opens after_left left said said_now (Now clock stopped host) → IsBetween opens after replies first said_now (Now clock stopped host)
+
+abbrev pub LaterIsBroken : {H W : Type 0} (clock : H → ℕ) (stopped : H → ℕ → List ℕ → List ℕ → Type 0) (opens : List ℕ → W → Type 0) → Type 0
+LaterIsBroken {H} {W} clock stopped opens =
+    (after after_left : ℕ → W) (replies left : List (List ℕ)) (first said said_now : List ℕ) (host : H)
+    → HasServed after replies after_left left (Unit {0}) first said → IsBroken opens after_left left said said_now (Now clock stopped host) → IsBroken opens after replies first said_now (Now clock stopped host)
+
+abbrev pub LaterIsCutShort : {H W : Type 0} (clock : H → ℕ) (stopped : H → ℕ → List ℕ → List ℕ → Type 0) (opens : List ℕ → W → Type 0) → Type 0
+LaterIsCutShort {H} {W} clock stopped opens =
+    (after after_left : ℕ → W) (replies left : List (List ℕ)) (first said said_now : List ℕ) (host : H)
+    → HasServed after replies after_left left (Unit {0}) first said → IsCutShort opens after_left left said said_now (Now clock stopped host) → IsCutShort opens after replies first said_now (Now clock stopped host)

@@ -157,6 +157,9 @@ pub trait Host {
         ensures time { Passes (clock self.old) (clock self.new) (stopped self.old) (stopped self.new) }
         ensures cause { OnErr result (Rose (now self.old).sink_faults (now self.new).sink_faults) };
 
+    /// A stop since a later moment is one since an earlier moment too.
+    ghost since: { (host : Self) (earlier later : ℕ) (c s : List ℕ) → earlier ≤ later → stopped host later c s → stopped host earlier c s };
+
     /// A stop at a moment leaves the bytes that were said until then.
     ghost says_now: { (host : Self) (c s : List ℕ) → stopped host (clock host) c s → s ≡ (now host).said };
 

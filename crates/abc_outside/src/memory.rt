@@ -141,7 +141,7 @@ impl MemoryHost {
 // was made or listed may be torn in every way (`torn`, `shortened`), and when a call fails (`called`).
 impl Host for MemoryHost {
     ghost use Rattle.abc_outside.specs.MemoryView.{IsCalled, FoundMemory, MayStop, clock_of, most_said_in, outside_of, starved_in, stopped_of};
-    ghost use Rattle.abc_outside.specs.MemoryLaws.{says_now_memory, reads_now_memory};
+    ghost use Rattle.abc_outside.specs.MemoryLaws.{since_memory, says_now_memory, reads_now_memory};
 
     ghost tells_chosen = { Unit {0} };
 
@@ -156,6 +156,8 @@ impl Host for MemoryHost {
     ghost clock = { clock_of };
 
     ghost stopped = { stopped_of };
+
+    ghost since = { λ h earlier later c s le stop. since_memory h.image.items h.said.items h.steps.items earlier later c s le stop };
 
     ghost says_now = { λ h c s stop. says_now_memory h.image.items h.said.items h.steps.items c s stop };
 

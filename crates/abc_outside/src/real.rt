@@ -110,6 +110,8 @@ impl Host for RealHost {
 
     ghost stopped = { λ _ _ _ _. ⊥ };
 
+    ghost since = { λ h earlier later c s le stop. absurd stop };
+
     ghost says_now = { λ h c s stop. absurd stop };
 
     ghost reads_now = { λ h told told_said. absurd told };

@@ -16,4 +16,6 @@ mod Opening
 mod Spelling
 mod Outcomes
 mod Turns
+mod Places
+mod Broken
 mod Runs

@@ -7,7 +7,7 @@ use Rattle.abc_outside.proofs.Leaves.{weaken}
 use Rattle.abc_journal.specs.declared.layout.Layout.{Layout}
 use Rattle.abc_journal.specs.Image.{Opened, opened, payloads_in, payloads_of, settled_image, read_image, live_slot, follow, fresh_image}
 use Rattle.abc_journal.specs.Journal.{HasLayout, IsSame, IsBeforeOrAfter}
-use Rattle.abc_journal.proofs.Image.{settled_twice, settled_long, settled_short, opened_extended}
+use Rattle.abc_journal.proofs.Image.{settled_twice, settled_short, opened_extended}
 use Rattle.abc_session.specs.Targets.{Targets}
 use Rattle.abc_session.specs.Workspace.{opens, targets_in, targets_from}
 use Rattle.abc_session.specs.Record.{applied}
@@ -47,15 +47,15 @@ pub opens_settled : (image : List ℕ) → opens (settled_image image) ≡ opens
 unfolding opens opened
 opens_settled image = ap (λ (i : List ℕ). targets_in (read_image i)) (settled_twice image)
 
-fresh_has_none : (o : Opened) → read_image fresh_image ≡ Ok o → o.payloads ≡ []
-unfolding read_image live_slot follow
-fresh_has_none o is = let none : payloads_in (read_image fresh_image) ≡ Ok [] = refl in cc (none, ap payloads_in is)
+fresh_opens : opens fresh_image ≡ Ok []
+unfolding opens opened read_image live_slot follow settled_image
+fresh_opens = refl
 
--- an image with a record is not replaced
-pub kept_image : (image : List ℕ) (o : Opened) → opened image ≡ Ok o → (o.payloads ≡ [] → ⊥) → settled_image image ≡ image
-unfolding opened
-kept_image image o is some =
-    ⊎_elim (λ (long : 65 < length image). settled_long image long) (λ (short : length image ≤ 65). absurd (some (fresh_has_none o (ap read_image (sym (settled_short image short)) ∙ is)))) (cases_lt 65 (length image))
+-- an image that doesn't open is not replaced
+pub long_image : (image : List ℕ) (at : ℕ) → opens image ≡ Err at → 65 < length image
+long_image image at is =
+    ⊎_elim (λ (long : 65 < length image). long)
+    (λ (short : length image ≤ 65). let empty : opens image ≡ Ok [] = sym (opens_settled image) ∙ ap opens (settled_short image short) ∙ fresh_opens in absurd (cc (is, empty))) (cases_lt 65 (length image))
 
 pub opens_extended : (image c : List ℕ) (layout : Layout) (targets : Targets) → HasLayout image layout → opens image ≡ Ok targets → Extends image c → opens c ≡ Ok targets
 opens_extended image c layout targets has is extends =

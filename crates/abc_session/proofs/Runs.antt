@@ -1,12 +1,13 @@
 -- A run on a store: its opening, and its session.
-use Rattle.std.proofs.Common.{◌≡◌, ℕ, List, inl, sym, ◌∙◌, ap, subst}
+use Rattle.std.proofs.Common.{◌≡◌, ◌≤◌, ℕ, List, inl, inr, ⊎_elim, sym, ◌∙◌, ap, subst}
 use Rattle.std.specs.Prelude.{Ok}
 use Rattle.abc_outside.specs.Stop.{Leaves, Passes, Extends}
 use Rattle.abc_outside.proofs.Leaves.{weaken, run_after, one_call, at_each}
+use Rattle.abc_outside.proofs.Endings.{now_leaves}
 use Rattle.abc_outside.proofs.Points.{point_start}
 use Rattle.abc_journal.specs.Image.{settled_image, layout_of, layout_in, opened, read_image}
-use Rattle.abc_journal.specs.Journal.{BeginsQuiet}
-use Rattle.abc_journal.proofs.Image.{settled_twice}
+use Rattle.abc_journal.specs.Journal.{BeginsQuiet, IsAsRead}
+use Rattle.abc_journal.proofs.Image.{settled_twice, settled_long}
 use Rattle.abc_session.specs.Lines.{Line}
 use Rattle.abc_session.specs.Workspace.{opens}
 use Rattle.abc_session.specs.Session.{Work, replies}
@@ -22,11 +23,29 @@ layout_settled image = ap (λ (i : List ℕ). layout_in (read_image i)) (settled
 pub starts : (image new : List ℕ) (work : Work) → opens image ≡ Ok work.targets → new ≡ settled_image image → Holds new work → IsStart image work
 starts image new work is settled holds = record { targets = is; layout = sym (layout_settled image) ∙ ap layout_of (sym settled) ∙ holds.layout.is }
 
+-- an image as it reads, or a longer one where it is not to be replaced
+begun_opens : (image c : List ℕ) (work : Work) → IsStart image work → IsAsRead image c → OpensTo c work
+begun_opens image c work start (inl same) = ap opens same ∙ start.targets
+begun_opens image c work start (inr longer) = opens_extended image c work.layout work.targets (record { settled = settled_long image longer.0; is = start.layout }) start.targets longer.1
+
 pub one_start : (image : List ℕ) (a b : Work) → IsStart image a → IsStart image b → a ≡ b
 one_start image a b p q =
     let targets : a.targets ≡ b.targets = cc (p.targets, q.targets) in
     let layout : a.layout ≡ b.layout = cc (p.layout, q.layout) in
     λ i. record { targets = targets i; layout = layout i }
+
+-- what is so of the session is so of the run, whose bound, work, input and said bytes are the same
+pub same_run : (P : ℕ → Work → List ℕ → List ℕ → Type 0) (bound bound_mid : ℕ) (work work_mid : Work) (left left_mid said said_mid : List ℕ) → bound_mid ≡ bound → work_mid ≡ work → left_mid ≡ left → said_mid ≡ said
+    → P bound_mid work_mid left_mid said_mid → P bound work left said
+same_run P bound bound_mid work work_mid left left_mid said said_mid same_bound same_work same_left same_said p =
+    subst (λ b. P b work left said) same_bound (subst (λ w. P bound_mid w left said) same_work (subst (λ l. P bound_mid work_mid l said) same_left (subst (λ t. P bound_mid work_mid left_mid t) same_said p)))
+
+-- while the store is opened every stop leaves the work of the start
+pub opening_now : {H : Type 0} (clock : H → ℕ) (stopped : H → ℕ → List ℕ → List ℕ → Type 0) (old mid : H) (image said : List ℕ) (work : Work)
+    → ((host : H) (earlier later : ℕ) (c s : List ℕ) → earlier ≤ later → stopped host later c s → stopped host earlier c s)
+    → BeginsQuiet clock stopped old image → IsStart image work → Leaves clock stopped old mid (λ c s. (s ≡ said) × (opens c ≡ Ok work.targets)) → (c s : List ℕ) → stopped mid (clock mid) c s → OpensTo c work
+opening_now clock stopped old mid image said work since quiet start leaves c s stop =
+    ⊎_elim (λ (was : stopped old (clock old) c s). begun_opens image c work start (quiet c s was)) (λ p. p.1) (now_leaves clock stopped old mid _ since leaves c s stop)
 
 module _ {H : Type 0} (clock : H → ℕ) (stopped : H → ℕ → List ℕ → List ℕ → Type 0) (old mid : H) (bound : ℕ) (work : Work) (items : List Line) (said : List ℕ) where
   -- while the store is opened nothing is said
@@ -71,3 +90,12 @@ quiet_after clock stopped old mid image image_mid still same stop c s now = inl 
 -- the last work is held, whatever a stop adds behind the image
 pub last_opens : (image c : List ℕ) (work : Work) → Holds image work → Extends image c → opens c ≡ Ok work.targets
 last_opens image c work holds extends = opens_extended image c work.layout work.targets holds.layout holds.opens_to extends
+
+-- what is so of a run on the store that was chosen is so of the whole run
+pub same_choice : (P : List ℕ → List ℕ → Type 0) (left left_mid said said_mid : List ℕ) → left_mid ≡ left → said_mid ≡ said → P left_mid said_mid → P left said
+same_choice P left left_mid said said_mid same_left same_said p = subst (λ l. P l said) same_left (subst (λ t. P left_mid t) same_said p)
+
+-- a choice that failed leaves the image
+pub choice_now : {H : Type 0} (clock : H → ℕ) (stopped : H → ℕ → List ℕ → List ℕ → Type 0) (old mid : H) (image : List ℕ) (work : Work) → IsStill clock stopped old image → IsStart image work
+    → ((c s : List ℕ) → stopped mid (clock mid) c s → stopped old (clock old) c s) → (c s : List ℕ) → stopped mid (clock mid) c s → OpensTo c work
+choice_now clock stopped old mid image work still start stop c s now = ap opens (still c s (stop c s now)) ∙ start.targets

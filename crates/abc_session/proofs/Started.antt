@@ -1,10 +1,10 @@
 -- A line that is being read.
-use Rattle.std.proofs.Common.{◌≡◌, ℕ, zero, suc, ◌+◌, ◌-◌, ◌<◌, ◌≤◌, Bool, true, false, List, [], ◌∷◌, ◌++◌, length, take, drop, refl, sym, ◌∙◌, ap, arith, append_assoc, length-append, length-drop, nat_lt, Option, Some, None, MatchOption}
-use Rattle.std.specs.Prelude.{map}
-use Rattle.std.proofs.lemmas.List.{append-nil, take_all, take_at, drop_at, drop-drop}
+use Rattle.std.proofs.Common.{◌≡◌, ℕ, zero, suc, ◌+◌, ◌-◌, ◌<◌, ◌≤◌, Bool, true, false, List, [], ◌∷◌, ◌++◌, length, take, drop, refl, sym, ◌∙◌, ap, arith, append_assoc, length-append, length-drop, take-append-drop, nat_lt, Option, Some, None, MatchOption}
+use Rattle.std.specs.Prelude.{map, IfSome}
+use Rattle.std.proofs.lemmas.List.{append-nil, length-take-le, take_all, take_at, drop_at, drop-drop}
 use Rattle.std.proofs.lemmas.Bool.{lt-ltb}
 use Rattle.abc_session.specs.Lines.{Line, line_of, cut_at_lf, lines_by}
-use Rattle.abc_session.specs.Reading.{HasNoLf, TookPart, IsStarted, WantsMore, IsLast, shown}
+use Rattle.abc_session.specs.Reading.{HasNoLf, TookPart, UsesLine, IsStarted, WantsMore, IsLast, shown}
 use Rattle.abc_session.specs.declared.line.Line as code
 use Rattle.abc_session.proofs.Cutting.{first_is, none_ended, last_is, all-append}
 
@@ -40,6 +40,24 @@ module _ (p0 l0 : List ℕ) (t0 : ℕ) (line : Line) (pending left : List ℕ) (
       ∙ ap (λ (l : List ℕ). s.bytes ++ l) (append_assoc part.part (10 ∷ new) (take (bound - taken) left)) ∙ sym (append_assoc s.bytes part.part (10 ∷ later)) in
       ap (λ (l : List ℕ). lines_by ends l) split ∙ ap (λ ls. map line_of ls) (first_is ends (s.bytes ++ part.part) later (all-append s.bytes part.part s.no_lf part.no_lf))
       ∙ ap (λ (l : Line). l ∷ lines_by ends later) (sym (part.grows s.bytes s.line_is)) ∙ ap (λ n. line_new ∷ lines_by (nat_lt n bound) later) (sym total)
+
+  -- and the line is used with its LF
+  pub uses : (new : List ℕ) (line_new : Line) → TookPart pending new line line_new true → UsesLine p0 l0 t0 new left taken line_new
+  uses new line_new part =
+      let mid : List ℕ = part.part ++ 10 ∷ new in
+      let held_long : length p0 + s.more ≡ length s.bytes + length pending =
+      omega (arith, ap length s.held, length-append p0 (take s.more l0), length-append s.bytes pending, length-take-le s.more l0 s.within) in
+      let pending_long : length pending ≡ length part.part + (1 + length new) = omega (arith, ap length part.split, length-append part.part (10 ∷ new)) in
+      record {
+        bytes = s.bytes ++ part.part;
+        no_lf = all-append s.bytes part.part s.no_lf part.no_lf;
+        line_is = part.grows s.bytes s.line_is;
+        split = ap (λ (l : List ℕ). p0 ++ l) (sym (take-append-drop s.more l0)) ∙ sym (append_assoc p0 (take s.more l0) (drop s.more l0))
+            ∙ ap (λ (l : List ℕ). l ++ drop s.more l0) s.held ∙ ap (λ (l : List ℕ). (s.bytes ++ pending) ++ l) (sym s.rest)
+            ∙ ap (λ (l : List ℕ). (s.bytes ++ l) ++ left) part.split ∙ append_assoc s.bytes mid left ∙ ap (λ (l : List ℕ). s.bytes ++ l) (append_assoc part.part (10 ∷ new) left)
+            ∙ sym (append_assoc s.bytes part.part (10 ∷ (new ++ left)));
+        count = omega (arith, s.count, held_long, pending_long, length-append s.bytes part.part);
+      }
 
   -- the pending bytes don't end it
   pub went_on : (new : List ℕ) (line_new : Line) → TookPart pending new line line_new false → IsStarted p0 l0 t0 line_new [] left taken
@@ -102,6 +120,11 @@ pub last_found : (found : Option code.Line) (line : code.Line) (before later : L
     → MatchOption found (before ≡ []) (λ last. before ≡ shown last ∷ later)
 last_found None line before later is none some end = none is
 last_found (Some last) line before later is none some end = some is.1 ∙ ap (λ (l : code.Line). shown l ∷ []) (sym is.0) ∙ ap (λ ls. shown last ∷ ls) (sym end)
+
+-- of every line that is found
+pub if_found : {A : Type 0} (found : Option A) (P : A → Type 0) → ((x : A) → P x) → IfSome found P
+if_found None P each = tt
+if_found (Some x) P each = each x
 
 pub none_left : (pending left : List ℕ) (ends : Bool) (n : ℕ) → pending ≡ [] → left ≡ [] → lines_by ends (pending ++ take n left) ≡ []
 none_left pending left ends n none end =

@@ -12,4 +12,5 @@ pub mod Reply
 pub mod Workspace
 pub mod Session
 pub mod Serving
+pub mod Settled
 pub mod Run

@@ -48,6 +48,14 @@ pub record IsStarted (pending left : List ℕ) (taken : ℕ) (line : Line) (pend
   pub no_lf : HasNoLf bytes
   pub line_is : line ≡ line_of bytes
 
+-- The next bytes were used, a line and the LF that ends it; so many were taken since.
+pub record UsesLine (pending left : List ℕ) (taken : ℕ) (pending_new left_new : List ℕ) (taken_new : ℕ) (line : Line) : Type 0 where
+  pub bytes : List ℕ
+  pub no_lf : HasNoLf bytes
+  pub line_is : line ≡ line_of bytes
+  pub split : pending ++ left ≡ bytes ++ 10 ∷ (pending_new ++ left_new)
+  pub count : length pending + taken_new ≡ taken + length bytes + 1 + length pending_new
+
 -- with these bytes more taken there is no whole line to serve
 abbrev pub WantsMore : List ℕ → List ℕ → ℕ → ℕ → Type 0
 WantsMore pending left taken taken_now = (more : ℕ) × (taken_now ≡ taken + more) × (more ≤ length left) × (cut_at_lf false (pending ++ take more left) ≡ [])

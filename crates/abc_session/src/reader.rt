@@ -87,7 +87,7 @@ fn read_piece<H: Host>(host: &mut H, piece: &mut [u8], most: u64) -> Result<usiz
 }
 
 impl Reader {
-    ghost use Rattle.abc_session.specs.Reading.{shown, pending_of, used_of, bytes_left, lines_left, TookPart, WantsMore, AsksMore};
+    ghost use Rattle.abc_session.specs.Reading.{shown, pending_of, used_of, bytes_left, lines_left, TookPart, UsesLine, WantsMore, AsksMore};
 
     pub(crate) fn new(alloc: Global, bound: u64) -> Reader
         ensures taken { result.taken ≡ 0 }
@@ -185,6 +185,8 @@ impl Reader {
 
         ensures line { H.tells_input → IfOk result (λ found. MatchOption found (lines_left self.old (H.now host.old).left ≡ [])
             (λ line. lines_left self.old (H.now host.old).left ≡ shown line ∷ lines_left self.new (H.now host.new).left)) }
+        ensures uses { H.tells_input → IfOk result (λ found. IfSome found (λ line. self.new.ended ≡ false
+            → UsesLine (pending_of self.old) (H.now host.old).left self.old.taken (pending_of self.new) (H.now host.new).left self.new.taken (shown line))) }
         ensures used { IfOk result (λ found. IsSome found → used_of self.old < used_of self.new) }
         ensures no_fewer { OnOk result (used_of self.old ≤ used_of self.new) }
         ensures short { IfOk result (λ found. IfSome found (λ line. length line.text.items ≤ MOST_LINE_BYTES)) }
@@ -202,6 +204,9 @@ impl Reader {
         ensures bound { self.new.bound ≡ self.old.bound }
         ensures asked { H.tells_said → H.tells_input
             → Asked (AsksMore (pending_of self.old) (H.now host.old).left self.old.taken (length (H.now host.old).said)) (H.now host.old).asked (H.now host.new).asked }
+        ensures stays_ended { self.old.ended ≡ true → self.new.ended ≡ true }
+        ensures ended_asks { self.old.ended ≡ true → (H.now host.new).asked ≡ (H.now host.old).asked }
+        ensures ended_ends { self.old.ended ≡ true → (IsErrOf result LineStop.Long ⊎ IsErrOf result LineStop.Input) → ⊥ }
         ensures rest { KeepsButInput (H.now host.old) (H.now host.new) }
         ensures stops { Leaves H.clock H.stopped host.old host.new (H.stopped host.old (H.clock host.old)) }
         ensures now { (c s : List ℕ) → H.stopped host.new (H.clock host.new) c s → H.stopped host.old (H.clock host.old) c s }

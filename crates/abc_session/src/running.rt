@@ -1,11 +1,14 @@
 //! The run: words in, a status out.
 ghost use Rattle.std.specs.Prelude.{◌≡◌, ◌⊎◌, ◌≤◌, ◌<◌, ◌++◌, ◌↔◌, List, ℕ, ℤ, map, length, Ok, Err, None, Some, option_map, IsTrue};
 ghost use Rattle.abc_outside.specs.Outside.{Outside, Rose};
-ghost use Rattle.abc_outside.specs.Stop.{Leaves, IsQuiet};
+ghost use Rattle.abc_outside.specs.Session.{IsBetween, IsBroken, IsCutShort};
+ghost use Rattle.abc_outside.specs.Stop.{Leaves, IsQuiet, Now};
 ghost use Rattle.abc_journal.specs.Journal.{BeginsQuiet};
+ghost use Rattle.abc_session.specs.Asking.{Asked};
 ghost use Rattle.abc_session.specs.Workspace.{opens};
-ghost use Rattle.abc_session.specs.Session.{Work, after};
-ghost use Rattle.abc_session.specs.Serving.{IsSessionPoint, NoneFell, IsStill};
+ghost use Rattle.abc_session.specs.Session.{Work, after, replies};
+ghost use Rattle.abc_session.specs.Serving.{OpensTo, works, IsSessionPoint, NoneFell, IsStill};
+ghost use Rattle.abc_session.specs.Settled.{AsksSettled, IsWaiting};
 ghost use Rattle.abc_session.specs.Run.{store_named, IsStart, items_in, IsComplete, IsUntouched, chose, IsStatus, IsRunStatus, NoneRose};
 
 use crate::session::{SessionStop, serve_all};
@@ -37,13 +40,32 @@ fn run_store<H: Host>(alloc: Global, host: &mut H, b: &Bounds) -> u8
     ensures store_fault { result ≡ STORE_FAULT → Rose (H.now host.old).store_faults (H.now host.new).store_faults }
     ensures sink_fault { result ≡ SINK_FAULT → Rose (H.now host.old).sink_faults (H.now host.new).sink_faults }
     ensures not_a_store { H.tells_image → result ≡ NOT_A_STORE → (at : ℕ) × (opens (H.now host.old).image ≡ Err at) }
-    ensures untouched { H.tells_image → result ≡ NOT_A_STORE → IsUntouched (H.now host.old) (H.now host.new) }
+    ensures untouched { H.tells_image → (at : ℕ) → opens (H.now host.old).image ≡ Err at → IsUntouched (H.now host.old) (H.now host.new) }
     ensures refused { H.tells_image → (at : ℕ) → opens (H.now host.old).image ≡ Err at → (result ≡ NOT_A_STORE) ⊎ (result ≡ STORE_FAULT) ⊎ (result ≡ MEMORY) }
     ensures too_long { result ≡ INPUT_TOO_LONG → (H.now host.new).taken ≡ b.now.input }
     ensures too_long_input { H.tells_input → result ≡ INPUT_TOO_LONG → b.now.input ≤ length (H.now host.old).left }
     ensures status { IsRunStatus result }
     ensures chosen { (H.now host.new).chosen ≡ (H.now host.old).chosen }
     ensures none_fell { NoneFell (H.now host.old) (H.now host.new) }
+
+    // What was asked for, and what stands after each status but 0, 2 and 6.
+    ensures asked { H.tells_image → H.tells_said → H.tells_input → (work : Work) → IsStart (H.now host.old).image work
+        → Asked (AsksSettled b.now.image work (H.now host.old).left (length (H.now host.old).said)) (H.now host.old).asked (H.now host.new).asked }
+    ensures waiting { H.tells_image → H.tells_said → H.tells_input → BeginsQuiet H.clock H.stopped host.old (H.now host.old).image
+        → (work : Work) → IsStart (H.now host.old).image work → ((result ≡ INPUT_FAULT) ⊎ (result ≡ INPUT_TOO_LONG))
+        → IsWaiting b.now.image work (H.now host.old).left (H.now host.old).said (H.now host.new) (Now H.clock H.stopped host.new) }
+    ensures between { H.tells_image → H.tells_said → H.tells_input → BeginsQuiet H.clock H.stopped host.old (H.now host.old).image
+        → (work : Work) → IsStart (H.now host.old).image work → result ≡ MEMORY
+        → IsBetween OpensTo (works b.now.image 1 work (items_in b.now.input (H.now host.old).left)) (replies b.now.image 1 work (items_in b.now.input (H.now host.old).left))
+        (H.now host.old).said (H.now host.new).said (Now H.clock H.stopped host.new) }
+    ensures broken { H.tells_image → H.tells_said → H.tells_input → BeginsQuiet H.clock H.stopped host.old (H.now host.old).image
+        → (work : Work) → IsStart (H.now host.old).image work → result ≡ STORE_FAULT
+        → IsBroken OpensTo (works b.now.image 1 work (items_in b.now.input (H.now host.old).left)) (replies b.now.image 1 work (items_in b.now.input (H.now host.old).left))
+        (H.now host.old).said (H.now host.new).said (Now H.clock H.stopped host.new) }
+    ensures cut_short { H.tells_image → H.tells_said → H.tells_input → BeginsQuiet H.clock H.stopped host.old (H.now host.old).image
+        → (work : Work) → IsStart (H.now host.old).image work → result ≡ SINK_FAULT
+        → IsCutShort OpensTo (works b.now.image 1 work (items_in b.now.input (H.now host.old).left)) (replies b.now.image 1 work (items_in b.now.input (H.now host.old).left))
+        (H.now host.old).said (H.now host.new).said (Now H.clock H.stopped host.new) }
 
     ensures stops { H.tells_image → H.tells_said → H.tells_input → BeginsQuiet H.clock H.stopped host.old (H.now host.old).image
         → (work : Work) → IsStart (H.now host.old).image work
@@ -88,10 +110,29 @@ pub fn run_within<H: Host>(alloc: Global, words: &[&str], host: &mut H, b: &Boun
 
     // What stays, and what was chosen.
     ensures usage_nothing { result ≡ USAGE → host.new ≡ host.old }
-    ensures untouched { H.tells_image → result ≡ NOT_A_STORE → IsUntouched (H.now host.old) (H.now host.new) }
+    ensures untouched { H.tells_image → (at : ℕ) → opens (H.now host.old).image ≡ Err at → IsUntouched (H.now host.old) (H.now host.new) }
     ensures chosen { H.tells_chosen → (store : List ℕ) → store_named (map (λ word. word.now) words.now) ≡ Some store
         → ((H.now host.new).chosen ≡ chose store (H.now host.old).chosen) ⊎ (((H.now host.new).chosen ≡ (H.now host.old).chosen) × ((result ≡ INPUT_FAULT) ⊎ (result ≡ STORE_FAULT) ⊎ (result ≡ MEMORY))) }
     ensures none_fell { NoneFell (H.now host.old) (H.now host.new) }
+
+    // What was asked for, and what stands after each status but 0, 2 and 6.
+    ensures asked { H.tells_image → H.tells_said → H.tells_input → (work : Work) → IsStart (H.now host.old).image work
+        → Asked (AsksSettled b.now.image work (H.now host.old).left (length (H.now host.old).said)) (H.now host.old).asked (H.now host.new).asked }
+    ensures waiting { H.tells_image → H.tells_said → H.tells_input → IsStill H.clock H.stopped host.old (H.now host.old).image
+        → (work : Work) → IsStart (H.now host.old).image work → ((result ≡ INPUT_FAULT) ⊎ (result ≡ INPUT_TOO_LONG))
+        → IsWaiting b.now.image work (H.now host.old).left (H.now host.old).said (H.now host.new) (Now H.clock H.stopped host.new) }
+    ensures between { H.tells_image → H.tells_said → H.tells_input → IsStill H.clock H.stopped host.old (H.now host.old).image
+        → (work : Work) → IsStart (H.now host.old).image work → result ≡ MEMORY
+        → IsBetween OpensTo (works b.now.image 1 work (items_in b.now.input (H.now host.old).left)) (replies b.now.image 1 work (items_in b.now.input (H.now host.old).left))
+        (H.now host.old).said (H.now host.new).said (Now H.clock H.stopped host.new) }
+    ensures broken { H.tells_image → H.tells_said → H.tells_input → IsStill H.clock H.stopped host.old (H.now host.old).image
+        → (work : Work) → IsStart (H.now host.old).image work → result ≡ STORE_FAULT
+        → IsBroken OpensTo (works b.now.image 1 work (items_in b.now.input (H.now host.old).left)) (replies b.now.image 1 work (items_in b.now.input (H.now host.old).left))
+        (H.now host.old).said (H.now host.new).said (Now H.clock H.stopped host.new) }
+    ensures cut_short { H.tells_image → H.tells_said → H.tells_input → IsStill H.clock H.stopped host.old (H.now host.old).image
+        → (work : Work) → IsStart (H.now host.old).image work → result ≡ SINK_FAULT
+        → IsCutShort OpensTo (works b.now.image 1 work (items_in b.now.input (H.now host.old).left)) (replies b.now.image 1 work (items_in b.now.input (H.now host.old).left))
+        (H.now host.old).said (H.now host.new).said (Now H.clock H.stopped host.new) }
 
     // At every moment of the run: what was said is a front of the session's output, and every image that a stop may leave
     // opens to the workspace after some of the items, which are all of whose reply a byte was said.
@@ -132,10 +173,29 @@ pub fn run<H: Host>(alloc: Global, words: &[&str], host: &mut H) -> u8
 
     // What stays, and what was chosen.
     ensures usage_nothing { result ≡ USAGE → host.new ≡ host.old }
-    ensures untouched { H.tells_image → result ≡ NOT_A_STORE → IsUntouched (H.now host.old) (H.now host.new) }
+    ensures untouched { H.tells_image → (at : ℕ) → opens (H.now host.old).image ≡ Err at → IsUntouched (H.now host.old) (H.now host.new) }
     ensures chosen { H.tells_chosen → (store : List ℕ) → store_named (map (λ word. word.now) words.now) ≡ Some store
         → ((H.now host.new).chosen ≡ chose store (H.now host.old).chosen) ⊎ (((H.now host.new).chosen ≡ (H.now host.old).chosen) × ((result ≡ INPUT_FAULT) ⊎ (result ≡ STORE_FAULT) ⊎ (result ≡ MEMORY))) }
     ensures none_fell { NoneFell (H.now host.old) (H.now host.new) }
+
+    // What was asked for, and what stands after each status but 0, 2 and 6.
+    ensures asked { H.tells_image → H.tells_said → H.tells_input → (work : Work) → IsStart (H.now host.old).image work
+        → Asked (AsksSettled IMAGE_BOUND work (H.now host.old).left (length (H.now host.old).said)) (H.now host.old).asked (H.now host.new).asked }
+    ensures waiting { H.tells_image → H.tells_said → H.tells_input → IsStill H.clock H.stopped host.old (H.now host.old).image
+        → (work : Work) → IsStart (H.now host.old).image work → ((result ≡ INPUT_FAULT) ⊎ (result ≡ INPUT_TOO_LONG))
+        → IsWaiting IMAGE_BOUND work (H.now host.old).left (H.now host.old).said (H.now host.new) (Now H.clock H.stopped host.new) }
+    ensures between { H.tells_image → H.tells_said → H.tells_input → IsStill H.clock H.stopped host.old (H.now host.old).image
+        → (work : Work) → IsStart (H.now host.old).image work → result ≡ MEMORY
+        → IsBetween OpensTo (works IMAGE_BOUND 1 work (items_in INPUT_BOUND (H.now host.old).left)) (replies IMAGE_BOUND 1 work (items_in INPUT_BOUND (H.now host.old).left))
+        (H.now host.old).said (H.now host.new).said (Now H.clock H.stopped host.new) }
+    ensures broken { H.tells_image → H.tells_said → H.tells_input → IsStill H.clock H.stopped host.old (H.now host.old).image
+        → (work : Work) → IsStart (H.now host.old).image work → result ≡ STORE_FAULT
+        → IsBroken OpensTo (works IMAGE_BOUND 1 work (items_in INPUT_BOUND (H.now host.old).left)) (replies IMAGE_BOUND 1 work (items_in INPUT_BOUND (H.now host.old).left))
+        (H.now host.old).said (H.now host.new).said (Now H.clock H.stopped host.new) }
+    ensures cut_short { H.tells_image → H.tells_said → H.tells_input → IsStill H.clock H.stopped host.old (H.now host.old).image
+        → (work : Work) → IsStart (H.now host.old).image work → result ≡ SINK_FAULT
+        → IsCutShort OpensTo (works IMAGE_BOUND 1 work (items_in INPUT_BOUND (H.now host.old).left)) (replies IMAGE_BOUND 1 work (items_in INPUT_BOUND (H.now host.old).left))
+        (H.now host.old).said (H.now host.new).said (Now H.clock H.stopped host.new) }
 
     // At every moment of the run: what was said is a front of the session's output, and every image that a stop may leave
     // opens to the workspace after some of the items, which are all of whose reply a byte was said.

@@ -7,6 +7,12 @@ ghost use Rattle.abc_session.specs.Lines.{items_of, lines_of};
 ghost use Rattle.abc_session.specs.Reading.{lines_left, used_of};
 ghost use Rattle.abc_session.specs.Session.{Work, after, replies};
 ghost use Rattle.abc_session.specs.Serving.{work_of, works, Holds, IsSessionPoint, NoneFell};
+ghost use Rattle.abc_outside.specs.Session.{IsBetween, IsBroken, IsCutShort};
+ghost use Rattle.abc_outside.specs.Stop.{Now};
+ghost use Rattle.abc_session.specs.Asking.{Asked};
+ghost use Rattle.abc_session.specs.Reading.{pending_of, WantsMore, AsksMore};
+ghost use Rattle.abc_session.specs.Serving.{OpensTo};
+ghost use Rattle.abc_session.specs.Settled.{AsksSettled, IsWaiting, IsBeforeLine};
 
 use crate::reader::{LineStop, Reader};
 use crate::serve::{ServeStop, serve_item};
@@ -64,6 +70,33 @@ fn turn<H: Host>(
     ensures chosen { (H.now host.new).chosen ≡ (H.now host.old).chosen }
     ensures none_fell { NoneFell (H.now host.old) (H.now host.new) }
 
+    // Where it stands, and what it asked for.
+    ensures before { H.tells_input → (start : Work) (input said : List ℕ)
+        → IsBeforeLine store.old.journal.bounds.image start input said H.tells_said served.old (work_of store.old) reader.old (H.now host.old)
+        → result ≡ Ok true → reader.new.ended ≡ false
+        → IsBeforeLine store.old.journal.bounds.image start input said H.tells_said served.new (work_of store.new) reader.new (H.now host.new) }
+    ensures asked { H.tells_said → H.tells_input
+        → Asked (AsksMore (pending_of reader.old) (H.now host.old).left reader.old.taken (length (H.now host.old).said)) (H.now host.old).asked (H.now host.new).asked }
+    ensures stays_ended { reader.old.ended ≡ true → reader.new.ended ≡ true }
+    ensures ended_asks { reader.old.ended ≡ true → (H.now host.new).asked ≡ (H.now host.old).asked }
+    ensures ended_ends { reader.old.ended ≡ true → (IsErrOf result SessionStop.Input ⊎ IsErrOf result SessionStop.Long) → ⊥ }
+    ensures wants { H.tells_input → (IsErrOf result SessionStop.Input ⊎ IsErrOf result SessionStop.Long)
+        → WantsMore (pending_of reader.old) (H.now host.old).left reader.old.taken (H.now host.new).taken }
+
+    // What stands where it stops.
+    ensures idle_said { (IsErrOf result SessionStop.Input ⊎ IsErrOf result SessionStop.Long ⊎ IsErrOf result SessionStop.Memory) → (H.now host.new).said ≡ (H.now host.old).said }
+    ensures idle { H.tells_image → IsQuiet H.clock H.stopped host.old (H.now host.old).image
+        → (IsErrOf result SessionStop.Input ⊎ IsErrOf result SessionStop.Long ⊎ IsErrOf result SessionStop.Memory)
+        → (c s : List ℕ) → Now H.clock H.stopped host.new c s → OpensTo c (work_of store.old) }
+    ensures broken { H.tells_image → H.tells_said → H.tells_input → IsQuiet H.clock H.stopped host.old (H.now host.old).image → IsErrOf result SessionStop.StoreFault
+        → IsBroken OpensTo (works store.old.journal.bounds.image (suc served.old) (work_of store.old) (items_of (lines_left reader.old (H.now host.old).left)))
+        (replies store.old.journal.bounds.image (suc served.old) (work_of store.old) (items_of (lines_left reader.old (H.now host.old).left)))
+        (H.now host.old).said (H.now host.new).said (Now H.clock H.stopped host.new) }
+    ensures cut_short { H.tells_image → H.tells_said → H.tells_input → IsQuiet H.clock H.stopped host.old (H.now host.old).image → IsErrOf result SessionStop.SinkFault
+        → IsCutShort OpensTo (works store.old.journal.bounds.image (suc served.old) (work_of store.old) (items_of (lines_left reader.old (H.now host.old).left)))
+        (replies store.old.journal.bounds.image (suc served.old) (work_of store.old) (items_of (lines_left reader.old (H.now host.old).left)))
+        (H.now host.old).said (H.now host.new).said (Now H.clock H.stopped host.new) }
+
     // At every moment of the call, and at its end.
     ensures stops { H.tells_image → H.tells_said → H.tells_input → IsQuiet H.clock H.stopped host.old (H.now host.old).image
         → Leaves H.clock H.stopped host.old host.new (IsSessionPoint store.old.journal.bounds.image (suc served.old) (work_of store.old)
@@ -115,6 +148,25 @@ pub(crate) fn serve_all<H: Host>(
     ensures sink_fault { IsErrOf result SessionStop.SinkFault → Rose (H.now host.old).sink_faults (H.now host.new).sink_faults }
     ensures chosen { (H.now host.new).chosen ≡ (H.now host.old).chosen }
     ensures none_fell { NoneFell (H.now host.old) (H.now host.new) }
+
+    // What was asked for, and what stands where the session stops.
+    ensures asked { H.tells_said → H.tells_input → Asked (AsksSettled store.old.journal.bounds.image (work_of store.old) (H.now host.old).left (length (H.now host.old).said))
+        (H.now host.old).asked (H.now host.new).asked }
+    ensures waiting { H.tells_image → H.tells_said → H.tells_input → IsQuiet H.clock H.stopped host.old (H.now host.old).image
+        → (IsErrOf result SessionStop.Input ⊎ IsErrOf result SessionStop.Long)
+        → IsWaiting store.old.journal.bounds.image (work_of store.old) (H.now host.old).left (H.now host.old).said (H.now host.new) (Now H.clock H.stopped host.new) }
+    ensures between { H.tells_image → H.tells_said → H.tells_input → IsQuiet H.clock H.stopped host.old (H.now host.old).image → IsErrOf result SessionStop.Memory
+        → IsBetween OpensTo (works store.old.journal.bounds.image 1 (work_of store.old) (items_of (lines_of bound (H.now host.old).left)))
+        (replies store.old.journal.bounds.image 1 (work_of store.old) (items_of (lines_of bound (H.now host.old).left)))
+        (H.now host.old).said (H.now host.new).said (Now H.clock H.stopped host.new) }
+    ensures broken { H.tells_image → H.tells_said → H.tells_input → IsQuiet H.clock H.stopped host.old (H.now host.old).image → IsErrOf result SessionStop.StoreFault
+        → IsBroken OpensTo (works store.old.journal.bounds.image 1 (work_of store.old) (items_of (lines_of bound (H.now host.old).left)))
+        (replies store.old.journal.bounds.image 1 (work_of store.old) (items_of (lines_of bound (H.now host.old).left)))
+        (H.now host.old).said (H.now host.new).said (Now H.clock H.stopped host.new) }
+    ensures cut_short { H.tells_image → H.tells_said → H.tells_input → IsQuiet H.clock H.stopped host.old (H.now host.old).image → IsErrOf result SessionStop.SinkFault
+        → IsCutShort OpensTo (works store.old.journal.bounds.image 1 (work_of store.old) (items_of (lines_of bound (H.now host.old).left)))
+        (replies store.old.journal.bounds.image 1 (work_of store.old) (items_of (lines_of bound (H.now host.old).left)))
+        (H.now host.old).said (H.now host.new).said (Now H.clock H.stopped host.new) }
 
     // At every moment of the session, and at its end.
     ensures stops { H.tells_image → H.tells_said → H.tells_input → IsQuiet H.clock H.stopped host.old (H.now host.old).image

@@ -88,7 +88,7 @@ impl Store {
         ensures sound { IfOk result (λ store. IsTrue store.journal.sound) }
 
         ensures refused { H.tells_image → IsErrOf result OpenFault.NotAStore → (at : ℕ) × (opens (H.now host.old).image ≡ Err at) }
-        ensures unchanged { H.tells_image → IsErrOf result OpenFault.NotAStore → (H.now host.new).image ≡ (H.now host.old).image }
+        ensures unchanged { H.tells_image → (at : ℕ) → opens (H.now host.old).image ≡ Err at → (H.now host.new).image ≡ (H.now host.old).image }
         ensures fault { IsErrOf result OpenFault.StoreFault → Rose (H.now host.old).store_faults (H.now host.new).store_faults }
         ensures rest { KeepsButStore (H.now host.old) (H.now host.new) }
 

@@ -1,6 +1,7 @@
 use Rattle.std.proofs.Common.{List, ℕ}
 use Rattle.abc_outside.proofs.Leaves.{at_each}
 use Rattle.abc_outside.proofs.Points.{point_start, point_item, point_later, heard_past, whole_past, session_points}
+use Rattle.abc_outside.proofs.Endings.{between_later, broken_later, cut_later}
 use Rattle.abc_outside.proofs.laws.session_of_stops.Goals as goal
 
 pub returns-clause-points : goal.returns-clause-points
@@ -20,3 +21,12 @@ returns-clause-heard g c = heard_past
 
 pub returns-clause-whole : goal.returns-clause-whole
 returns-clause-whole g c = whole_past
+
+pub returns-clause-between : goal.returns-clause-between
+returns-clause-between g c after after_left replies left first said said_now host served p = between_later g.W.Opens.opens after replies after_left left first said said_now (g.H.Host.stopped host (g.H.Host.clock host)) served p
+
+pub returns-clause-broken : goal.returns-clause-broken
+returns-clause-broken g c after after_left replies left first said said_now host served p = broken_later g.W.Opens.opens after replies after_left left first said said_now (g.H.Host.stopped host (g.H.Host.clock host)) served p
+
+pub returns-clause-cut_short : goal.returns-clause-cut_short
+returns-clause-cut_short g c after after_left replies left first said said_now host served p = cut_later g.W.Opens.opens after replies after_left left first said said_now (g.H.Host.stopped host (g.H.Host.clock host)) served p

@@ -1,8 +1,13 @@
-use Rattle.std.proofs.Common.{◌≡◌, ◌∙◌, List, ℕ, sym, ap, subst}
-use Rattle.abc_session.specs.Session.{after}
+use Rattle.std.proofs.Common.{◌≡◌, ◌∙◌, List, ℕ, length, sym, ap, subst}
+use Rattle.abc_outside.specs.Session.{IsBetween, IsBroken, IsCutShort}
+use Rattle.abc_session.specs.Asking.{Asked}
+use Rattle.abc_session.specs.Session.{after, replies}
 use Rattle.abc_session.specs.Run.{IsStart, items_in}
-use Rattle.abc_session.specs.Serving.{Holds}
-use Rattle.abc_session.proofs.Runs.{still_point, choice_points, run_points, quiet_after, last_opens, one_start}
+use Rattle.abc_session.specs.Serving.{works, Holds, OpensTo}
+use Rattle.abc_session.specs.Settled.{AsksSettled, IsWaiting}
+use Rattle.abc_session.proofs.Asks.{none_asked}
+use Rattle.abc_session.proofs.Broken.{idle_broken}
+use Rattle.abc_session.proofs.Runs.{still_point, choice_points, run_points, quiet_after, last_opens, one_start, same_choice, choice_now}
 use Rattle.abc_session.proofs.running.run_within.Goals as goal
 
 pub returns-in_default-clause-headline : goal.returns-in_default-clause-headline
@@ -34,3 +39,76 @@ returns-in-Ok-clause-last g c told told_said told_input still is work start i s 
     let last : after c.args.b.now.image 1 all.start (items_in c.args.b.now.input mid.left) ≡ after c.args.b.now.image 1 work (items_in c.args.b.now.input (g.H.Host.now c.args.host.now).left) =
     ap (λ w. after c.args.b.now.image 1 w (items_in c.args.b.now.input mid.left)) same ∙ ap (λ (l : List ℕ). after c.args.b.now.image 1 work (items_in c.args.b.now.input l)) c.choose.ensures.rest.left in
     last_opens (g.H.Host.now c.run_store.new.host).image i _ (subst (λ w. Holds (g.H.Host.now c.run_store.new.host).image w) last all.holds) (c.run_store.ensures.quiet told quiet is i s stop)
+
+pub returns-in-Err-Store-clause-broken : goal.returns-in-Err-Store-clause-broken
+returns-in-Err-Store-clause-broken g c told told_said told_input still work start _ =
+    let old = g.H.Host.now c.args.host.now in
+    let mid = g.H.Host.now c.choose.new.self in
+    idle_broken c.args.b.now.image 1 work (items_in c.args.b.now.input old.left) old.said mid.said (g.H.Host.stopped c.choose.new.self (g.H.Host.clock c.choose.new.self)) c.choose.ensures.rest.said
+    (choice_now g.H.Host.clock g.H.Host.stopped c.args.host.now c.choose.new.self old.image work still start c.choose.ensures.stop)
+
+pub returns-in_default-clause-asked : goal.returns-in_default-clause-asked
+returns-in_default-clause-asked g c told told_said told_input work start = none_asked _ _
+
+pub returns-in-Err-Store-clause-asked : goal.returns-in-Err-Store-clause-asked
+returns-in-Err-Store-clause-asked g c told told_said told_input work start =
+    let old = g.H.Host.now c.args.host.now in
+    subst (λ (a : List (ℕ × ℕ)). Asked (AsksSettled c.args.b.now.image work old.left (length old.said)) old.asked a) (sym c.choose.ensures.rest.asked) (none_asked _ _)
+
+pub returns-in-Err-Input-clause-asked : goal.returns-in-Err-Input-clause-asked
+returns-in-Err-Input-clause-asked g c told told_said told_input work start =
+    let old = g.H.Host.now c.args.host.now in
+    subst (λ (a : List (ℕ × ℕ)). Asked (AsksSettled c.args.b.now.image work old.left (length old.said)) old.asked a) (sym c.choose.ensures.rest.asked) (none_asked _ _)
+
+pub returns-in-Ok-clause-asked : goal.returns-in-Ok-clause-asked
+returns-in-Ok-clause-asked g c told told_said told_input work start =
+    let old = g.H.Host.now c.args.host.now in
+    let mid = g.H.Host.now c.choose.new.self in
+    let new = g.H.Host.now c.run_store.new.host in
+    subst (λ (a : List (ℕ × ℕ)). Asked (AsksSettled c.args.b.now.image work old.left (length old.said)) a new.asked) c.choose.ensures.rest.asked
+    (same_choice (λ l t. Asked (AsksSettled c.args.b.now.image work l (length t)) mid.asked new.asked) old.left mid.left old.said mid.said c.choose.ensures.rest.left c.choose.ensures.rest.said
+    (c.run_store.ensures.asked told told_said told_input work (subst (λ (i : List ℕ). IsStart i work) (sym c.choose.ensures.rest.image) start)))
+
+pub returns-in-Ok-clause-waiting : goal.returns-in-Ok-clause-waiting
+returns-in-Ok-clause-waiting g c told told_said told_input still work start is =
+    let old = g.H.Host.now c.args.host.now in
+    let mid = g.H.Host.now c.choose.new.self in
+    let new = g.H.Host.now c.run_store.new.host in
+    let now = g.H.Host.stopped c.run_store.new.host (g.H.Host.clock c.run_store.new.host) in
+    same_choice (λ l t. IsWaiting c.args.b.now.image work l t new now) old.left mid.left old.said mid.said c.choose.ensures.rest.left c.choose.ensures.rest.said
+    (c.run_store.ensures.waiting told told_said told_input
+    (quiet_after g.H.Host.clock g.H.Host.stopped c.args.host.now c.choose.new.self old.image mid.image still c.choose.ensures.rest.image c.choose.ensures.stop)
+    work (subst (λ (i : List ℕ). IsStart i work) (sym c.choose.ensures.rest.image) start) is)
+
+pub returns-in-Ok-clause-between : goal.returns-in-Ok-clause-between
+returns-in-Ok-clause-between g c told told_said told_input still work start is =
+    let old = g.H.Host.now c.args.host.now in
+    let mid = g.H.Host.now c.choose.new.self in
+    let new = g.H.Host.now c.run_store.new.host in
+    let now = g.H.Host.stopped c.run_store.new.host (g.H.Host.clock c.run_store.new.host) in
+    same_choice (λ l t. IsBetween OpensTo (works c.args.b.now.image 1 work (items_in c.args.b.now.input l)) (replies c.args.b.now.image 1 work (items_in c.args.b.now.input l)) t new.said now) old.left mid.left old.said mid.said c.choose.ensures.rest.left c.choose.ensures.rest.said
+    (c.run_store.ensures.between told told_said told_input
+    (quiet_after g.H.Host.clock g.H.Host.stopped c.args.host.now c.choose.new.self old.image mid.image still c.choose.ensures.rest.image c.choose.ensures.stop)
+    work (subst (λ (i : List ℕ). IsStart i work) (sym c.choose.ensures.rest.image) start) is)
+
+pub returns-in-Ok-clause-broken : goal.returns-in-Ok-clause-broken
+returns-in-Ok-clause-broken g c told told_said told_input still work start is =
+    let old = g.H.Host.now c.args.host.now in
+    let mid = g.H.Host.now c.choose.new.self in
+    let new = g.H.Host.now c.run_store.new.host in
+    let now = g.H.Host.stopped c.run_store.new.host (g.H.Host.clock c.run_store.new.host) in
+    same_choice (λ l t. IsBroken OpensTo (works c.args.b.now.image 1 work (items_in c.args.b.now.input l)) (replies c.args.b.now.image 1 work (items_in c.args.b.now.input l)) t new.said now) old.left mid.left old.said mid.said c.choose.ensures.rest.left c.choose.ensures.rest.said
+    (c.run_store.ensures.broken told told_said told_input
+    (quiet_after g.H.Host.clock g.H.Host.stopped c.args.host.now c.choose.new.self old.image mid.image still c.choose.ensures.rest.image c.choose.ensures.stop)
+    work (subst (λ (i : List ℕ). IsStart i work) (sym c.choose.ensures.rest.image) start) is)
+
+pub returns-in-Ok-clause-cut_short : goal.returns-in-Ok-clause-cut_short
+returns-in-Ok-clause-cut_short g c told told_said told_input still work start is =
+    let old = g.H.Host.now c.args.host.now in
+    let mid = g.H.Host.now c.choose.new.self in
+    let new = g.H.Host.now c.run_store.new.host in
+    let now = g.H.Host.stopped c.run_store.new.host (g.H.Host.clock c.run_store.new.host) in
+    same_choice (λ l t. IsCutShort OpensTo (works c.args.b.now.image 1 work (items_in c.args.b.now.input l)) (replies c.args.b.now.image 1 work (items_in c.args.b.now.input l)) t new.said now) old.left mid.left old.said mid.said c.choose.ensures.rest.left c.choose.ensures.rest.said
+    (c.run_store.ensures.cut_short told told_said told_input
+    (quiet_after g.H.Host.clock g.H.Host.stopped c.args.host.now c.choose.new.self old.image mid.image still c.choose.ensures.rest.image c.choose.ensures.stop)
+    work (subst (λ (i : List ℕ). IsStart i work) (sym c.choose.ensures.rest.image) start) is)

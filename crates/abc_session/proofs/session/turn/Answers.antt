@@ -5,6 +5,11 @@ use Rattle.abc_session.specs.Reading.{shown, lines_left}
 use Rattle.abc_session.specs.Session.{outcome}
 use Rattle.abc_session.specs.Serving.{work_of}
 use Rattle.abc_session.proofs.Turns.{reading_stops, item_stops, same_goes_on, item_goes_on, blank_first}
+use Rattle.std.specs.Prelude.{◌<◌, length, take}
+use Rattle.abc_session.specs.Reading.{UsesLine, pending_of}
+use Rattle.abc_session.specs.Settled.{IsBeforeLine}
+use Rattle.abc_session.proofs.Places.{past_blank, past_item}
+use Rattle.abc_session.proofs.Broken.{quiet_opens, item_broken, item_cut}
 use Rattle.abc_session.proofs.session.turn.Goals as goal
 
 pub returns-in-Ok-None-clause-stops : goal.returns-in-Ok-None-clause-stops
@@ -118,3 +123,84 @@ returns-in-Ok-clause-goes_on g c told_input =
 
 pub returns-in-Ok-None-clause-counted : goal.returns-in-Ok-None-clause-counted
 returns-in-Ok-None-clause-counted g c = omega (arith, c.in-Ok-None.ensures.no_fewer, c.requires.counted)
+
+pub returns-in-Err-Input-clause-idle : goal.returns-in-Err-Input-clause-idle
+returns-in-Err-Input-clause-idle g c told quiet _ i s stop =
+    quiet_opens g.H.Host.clock g.H.Host.stopped c.args.host.now (g.H.Host.now c.args.host.now).image (work_of c.args.store.now) (c.requires.holds told) quiet i s (c.next.ensures.now i s stop)
+
+pub returns-in-Err-Long-clause-idle : goal.returns-in-Err-Long-clause-idle
+returns-in-Err-Long-clause-idle g c told quiet _ i s stop =
+    quiet_opens g.H.Host.clock g.H.Host.stopped c.args.host.now (g.H.Host.now c.args.host.now).image (work_of c.args.store.now) (c.requires.holds told) quiet i s (c.next.ensures.now i s stop)
+
+pub returns-in-Err-Memory-clause-idle : goal.returns-in-Err-Memory-clause-idle
+returns-in-Err-Memory-clause-idle g c told quiet _ i s stop =
+    quiet_opens g.H.Host.clock g.H.Host.stopped c.args.host.now (g.H.Host.now c.args.host.now).image (work_of c.args.store.now) (c.requires.holds told) quiet i s (c.next.ensures.now i s stop)
+
+pub returns-clause-idle : goal.returns-clause-idle
+returns-clause-idle g c told quiet _ i s stop =
+    let same : c.serve_item.new.host ≡ c.next.new.host = search rules in
+    quiet_opens g.H.Host.clock g.H.Host.stopped c.args.host.now (g.H.Host.now c.args.host.now).image (work_of c.args.store.now) (c.requires.holds told) quiet i s
+    (c.next.ensures.now i s (subst (λ h. g.H.Host.stopped h (g.H.Host.clock h) i s) same stop))
+
+pub returns-then-is_blank-clause-before : goal.returns-then-is_blank-clause-before
+returns-then-is_blank-clause-before g c told start input said place _ ended =
+    let line = shown c.in-Ok-Some.line in
+    let mid = g.H.Host.now c.next.new.host in
+    let uses : UsesLine (pending_of c.args.reader.now) (g.H.Host.now c.args.host.now).left c.args.reader.now.taken (pending_of c.next.new.self) mid.left c.next.new.self.taken line =
+    (rw c.in-Ok-Some.field-0-is at c.in-Ok-Some.ensures.uses) told ended in
+    past_blank c.args.store.now.journal.bounds.image start input said g.H.Host.tells_said c.args.served.now (work_of c.args.store.now) c.args.reader.now (g.H.Host.now c.args.host.now) place
+    c.next.new.self mid line uses (search rules) c.next.ensures.rest.said
+
+pub returns-in-Ok-clause-before : goal.returns-in-Ok-clause-before
+returns-in-Ok-clause-before g c told start input said place _ ended =
+    let line = shown c.in-Ok-Some.line in
+    let bound = c.args.store.now.journal.bounds.image in
+    let work = work_of c.args.store.now in
+    let old = g.H.Host.now c.args.host.now in
+    let mid = g.H.Host.now c.next.new.host in
+    let new = g.H.Host.now c.serve_item.new.host in
+    let uses_mid : UsesLine (pending_of c.args.reader.now) old.left c.args.reader.now.taken (pending_of c.next.new.self) mid.left c.next.new.self.taken line =
+    (rw c.in-Ok-Some.field-0-is at c.in-Ok-Some.ensures.uses) told ended in
+    let uses = subst (λ (l : List ℕ). UsesLine (pending_of c.args.reader.now) old.left c.args.reader.now.taken (pending_of c.next.new.self) l c.next.new.self.taken line) (sym c.serve_item.ensures.rest.left) uses_mid in
+    let some : is_blank line ≡ false = search rules in
+    let number : c.args.served.now + 1 ≡ suc c.args.served.now = omega arith in
+    let work_is : work_of c.serve_item.new.store ≡ (outcome bound (c.args.served.now + 1) work line).work = search rules in
+    subst (λ n. IsBeforeLine bound start input said g.H.Host.tells_said n (work_of c.serve_item.new.store) c.next.new.self new) (sym number)
+    (past_item bound start input said g.H.Host.tells_said c.args.served.now work c.args.reader.now old place c.next.new.self new line uses (work_of c.serve_item.new.store) some
+    (work_is ∙ ap (λ n. (outcome bound n work line).work) number)
+    (λ told_said. c.in-Ok.ensures.said told_said ∙ ap (λ (l : List ℕ). l ++ (outcome bound (c.args.served.now + 1) work line).reply) c.next.ensures.rest.said ∙ ap (λ n. old.said ++ (outcome bound n work line).reply) number))
+
+pub returns-in-Err-StoreFault-clause-broken : goal.returns-in-Err-StoreFault-clause-broken
+returns-in-Err-StoreFault-clause-broken g c told told_said told_input quiet _ =
+    let line = shown c.in-Ok-Some.line in
+    let later = lines_left c.next.new.self (g.H.Host.now c.next.new.host).left in
+    let split : lines_left c.args.reader.now (g.H.Host.now c.args.host.now).left ≡ line ∷ later = (rw c.in-Ok-Some.field-0-is at c.in-Ok-Some.ensures.line) told_input in
+    let some : is_blank line ≡ false = search rules in
+    let number : c.args.served.now + 1 ≡ suc c.args.served.now = omega arith in
+    let quiet_mid : IsQuiet g.H.Host.clock g.H.Host.stopped c.next.new.host (g.H.Host.now c.next.new.host).image =
+    λ i s stop. subst (λ m. Extends m i) (sym c.next.ensures.rest.image) (quiet i s (c.next.ensures.now i s stop)) in
+    let unsaid : (g.H.Host.now c.serve_item.new.host).said ≡ (g.H.Host.now c.next.new.host).said = search rules in
+    item_broken g.H.Host.clock g.H.Host.stopped c.next.new.host c.serve_item.new.host c.args.store.now.journal.bounds.image (suc c.args.served.now) (c.args.served.now + 1) (work_of c.args.store.now) line
+    (lines_left c.args.reader.now (g.H.Host.now c.args.host.now).left) later (g.H.Host.now c.args.host.now).said (g.H.Host.now c.next.new.host).said (g.H.Host.now c.serve_item.new.host).said
+    split some number c.next.ensures.rest.said g.met.H.Host.since
+    (λ i s stop. quiet_opens g.H.Host.clock g.H.Host.stopped c.args.host.now (g.H.Host.now c.args.host.now).image (work_of c.args.store.now) (c.requires.holds told) quiet i s (c.next.ensures.now i s stop))
+    (c.serve_item.ensures.stops told told_said quiet_mid) unsaid
+
+pub returns-in-Err-SinkFault-clause-cut_short : goal.returns-in-Err-SinkFault-clause-cut_short
+returns-in-Err-SinkFault-clause-cut_short g c told told_said told_input quiet _ =
+    let line = shown c.in-Ok-Some.line in
+    let bound = c.args.store.now.journal.bounds.image in
+    let work = work_of c.args.store.now in
+    let new = g.H.Host.now c.serve_item.new.host in
+    let later = lines_left c.next.new.self (g.H.Host.now c.next.new.host).left in
+    let split : lines_left c.args.reader.now (g.H.Host.now c.args.host.now).left ≡ line ∷ later = (rw c.in-Ok-Some.field-0-is at c.in-Ok-Some.ensures.line) told_input in
+    let some : is_blank line ≡ false = search rules in
+    let number : c.args.served.now + 1 ≡ suc c.args.served.now = omega arith in
+    let quiet_mid : IsQuiet g.H.Host.clock g.H.Host.stopped c.next.new.host (g.H.Host.now c.next.new.host).image =
+    λ i s stop. subst (λ m. Extends m i) (sym c.next.ensures.rest.image) (quiet i s (c.next.ensures.now i s stop)) in
+    let part : (n : ℕ) × (n < length (outcome bound (c.args.served.now + 1) work line).reply) × (new.said ≡ (g.H.Host.now c.next.new.host).said ++ take n (outcome bound (c.args.served.now + 1) work line).reply) =
+    c.serve_item.ensures.part told_said (search rules) in
+    item_cut g.H.Host.clock g.H.Host.stopped c.next.new.host c.serve_item.new.host bound (suc c.args.served.now) (c.args.served.now + 1) work line
+    (lines_left c.args.reader.now (g.H.Host.now c.args.host.now).left) later (g.H.Host.now c.args.host.now).said (g.H.Host.now c.next.new.host).said new.said
+    split some number c.next.ensures.rest.said part.0 part.1 part.2 (work_of c.serve_item.new.store) (search rules)
+    (quiet_opens g.H.Host.clock g.H.Host.stopped c.serve_item.new.host new.image (work_of c.serve_item.new.store) (c.serve_item.ensures.holds told (search rules)) (c.serve_item.ensures.quiet told quiet_mid (search rules)))

@@ -2,7 +2,7 @@ use Rattle.std.proofs.Common.{rules, ◌≡◌, ◌<◌, ◌+◌, ◌-◌, ◌++
 use Rattle.abc_outside.proofs.Leaves.{run_after}
 use Rattle.abc_session.specs.Lines.{lines_by}
 use Rattle.abc_session.specs.Reading.{shown, pending_of, TookPart}
-use Rattle.abc_session.proofs.Started.{found, went_on, read_on, wants, ends_empty, ends_line, last_found, none_left}
+use Rattle.abc_session.proofs.Started.{found, uses, if_found, went_on, read_on, wants, ends_empty, ends_line, last_found, none_left}
 use Rattle.abc_session.proofs.Asks.{asks_more}
 use Rattle.abc_session.proofs.reader.Reader.next.Goals as goal
 
@@ -56,6 +56,11 @@ pieces-preserved g c =
           let w = wants _ _ _ _ _ _ _ (s told) refl in
           asks_more (pending_of c.args.self.now) (g.H.Host.now c.args.host.now).left c.args.self.now.taken (length (g.H.Host.now c.args.host.now).said) c.take_part.new.self.taken (length (g.H.Host.now c.pieces.host).said)
           (g.H.Host.now c.args.host.now).asked (g.H.Host.now c.pieces.host).asked (g.H.Host.now c.fill.new.host).asked (w.0, c.in_ok-take_part.ensures.taken ∙ w.1, w.2, w.3) (ap length i.keeps.said) (i.asked told_said told) (c.fill.ensures.asked told_said);
+      ended_asks = λ is.
+          let went : c.pieces.self.ended ≡ true = (i.ended_asks is).0 in
+          let not : c.take_part.new.self.ended ≡ false = search rules in
+          let same : c.take_part.new.self.ended ≡ c.pieces.self.ended = c.in_ok-take_part.ensures.ended in
+          absurd (cc (went, not, same));
       keeps = search rules;
       stops = run_after g.H.Host.clock g.H.Host.stopped c.args.host.now c.pieces.host c.fill.new.host _ _ i.stops c.fill.ensures.stops i.now;
       now = λ image said stop. i.now image said (c.fill.ensures.now image said stop);
@@ -76,3 +81,17 @@ returns-in_err-fill-clause-asked g c told_said told =
     let w = wants _ _ _ _ _ _ _ s refl in
     asks_more (pending_of c.args.self.now) (g.H.Host.now c.args.host.now).left c.args.self.now.taken (length (g.H.Host.now c.args.host.now).said) c.take_part.new.self.taken (length (g.H.Host.now c.pieces.host).said)
     (g.H.Host.now c.args.host.now).asked (g.H.Host.now c.pieces.host).asked (g.H.Host.now c.fill.new.host).asked (w.0, c.in_ok-take_part.ensures.taken ∙ w.1, w.2, w.3) (ap length i.keeps.said) (i.asked told_said told) (c.fill.ensures.asked told_said)
+
+pub returns-then-branch-clause-uses : goal.returns-then-branch-clause-uses
+returns-then-branch-clause-uses g c told not_ended =
+    let left = (g.H.Host.now c.pieces.host).left in
+    let new = c.take_part.new.self in
+    let line = shown c.take_part.new.line in
+    let part : TookPart (pending_of c.pieces.self) (pending_of new) (shown c.pieces.line) line true = rw c.if-branch.true at c.in_ok-take_part.ensures.part in
+    rw (c.in_ok-take_part.ensures.taken) (uses (pending_of c.args.self.now) (g.H.Host.now c.args.host.now).left c.args.self.now.taken (shown c.pieces.line) (pending_of c.pieces.self) left c.pieces.self.taken (c.pieces.invariant.started told)
+    (pending_of new) line part)
+
+pub returns-then-self-clause-uses : goal.returns-then-self-clause-uses
+returns-then-self-clause-uses g c told =
+    let is : c.take_part.new.self.ended ≡ true = search rules in
+    if_found c.if_any.result _ (λ line not. absurd (cc (is, not)))

@@ -18,6 +18,7 @@ invariant-pieces g l = record {
   asked : g.H.Host.tells_said → g.H.Host.tells_input
       → Asked (AsksMore (pending_of l.initial.self) (g.H.Host.now l.initial.host).left l.initial.self.taken (length (g.H.Host.now l.initial.host).said))
       (g.H.Host.now l.initial.host).asked (g.H.Host.now l.host).asked;
+  ended_asks : l.initial.self.ended ≡ true → (l.self.ended ≡ true) × ((g.H.Host.now l.host).asked ≡ (g.H.Host.now l.initial.host).asked);
   keeps : KeepsButInput (g.H.Host.now l.initial.host) (g.H.Host.now l.host);
   stops : Leaves g.H.Host.clock g.H.Host.stopped l.initial.host l.host (g.H.Host.stopped l.initial.host (g.H.Host.clock l.initial.host));
   now : (c s : List ℕ) → g.H.Host.stopped l.host (g.H.Host.clock l.host) c s → g.H.Host.stopped l.initial.host (g.H.Host.clock l.initial.host) c s;

@@ -1,7 +1,7 @@
 use Rattle.std.proofs.Common.{◌≡◌, ◌∙◌, ℕ, List, [], sym, ap}
 use Rattle.std.specs.Prelude.{Ok, Err}
 use Rattle.abc_session.specs.Workspace.{opens, targets_from}
-use Rattle.abc_session.proofs.Opening.{opens_of, opens_err, opens_settled, kept_image, opening_stops}
+use Rattle.abc_session.proofs.Opening.{opens_of, opens_err, opens_settled, long_image, opening_stops}
 use Rattle.abc_session.proofs.store.Store.open.Goals as goal
 
 pub returns-in-Err-StoreFault-clause-stops : goal.returns-in-Err-StoreFault-clause-stops
@@ -53,8 +53,13 @@ returns-clause-refused g c told is =
     (none.0, opens_of _ _ (c.in-Ok.ensures.opened told) ∙ ap (λ (ps : List (List ℕ)). targets_from start [] ps) (sym c.deref.ensures.value) ∙ none.1)
 
 pub returns-clause-unchanged : goal.returns-clause-unchanged
-returns-clause-unchanged g c told is =
-    let start = c.in-Ok.found.0.layout.start in
-    let none : (at : ℕ) × (targets_from start [] c.deref.result.now ≡ Err at) = rw c.in-None.is at (c.in_ok-targets.ensures start) in
-    let refused : targets_from start [] c.in-Ok.found.1.items ≡ Err none.0 = ap (λ (ps : List (List ℕ)). targets_from start [] ps) (sym c.deref.ensures.value) ∙ none.1 in
-    c.in-Ok.ensures.image told ∙ kept_image (g.H.Host.now c.args.host.now).image _ (c.in-Ok.ensures.opened told) (λ empty. cc (refused, ap (λ (ps : List (List ℕ)). targets_from start [] ps) empty))
+returns-clause-unchanged g c told at is = c.begin.ensures.long told (long_image (g.H.Host.now c.args.host.now).image at is)
+
+pub returns-in-Err-StoreFault-clause-unchanged : goal.returns-in-Err-StoreFault-clause-unchanged
+returns-in-Err-StoreFault-clause-unchanged g c told at is = c.begin.ensures.long told (long_image (g.H.Host.now c.args.host.now).image at is)
+
+pub returns-in_err-targets-clause-unchanged : goal.returns-in_err-targets-clause-unchanged
+returns-in_err-targets-clause-unchanged g c told at is = c.begin.ensures.long told (long_image (g.H.Host.now c.args.host.now).image at is)
+
+pub returns-in-Some-clause-unchanged : goal.returns-in-Some-clause-unchanged
+returns-in-Some-clause-unchanged g c told at is = c.begin.ensures.long told (long_image (g.H.Host.now c.args.host.now).image at is)
