@@ -1,0 +1,4 @@
+mod Fronts
+mod Splitting
+mod Feeding
+mod Whole

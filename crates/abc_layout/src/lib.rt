@@ -1,0 +1,12 @@
+//! The lines of an input cut into items, one line at a time.
+#![tactic(auto)]
+
+mod laws;
+mod splitter;
+
+pub use abc_num::{ItemLines, Line};
+pub use laws::whole_stays;
+pub use splitter::{Fed, Splitter};
+
+#[cfg(test)]
+mod tests;

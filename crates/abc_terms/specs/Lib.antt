@@ -1,0 +1,4 @@
+pub mod Demands
+pub mod Nodes
+pub mod Sizes
+pub mod Regular

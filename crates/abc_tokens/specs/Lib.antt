@@ -1,0 +1,10 @@
+pub mod Bytes
+pub mod Words
+pub mod Texts
+pub mod Tokens
+pub mod Shape
+pub mod Scanned
+pub mod Steps
+pub mod Reading
+pub mod Reads
+pub mod Shapes

@@ -1,0 +1,18 @@
+//! The tokens of a line, and its shape: what of it matters for the lines of an item.
+#![tactic(auto)]
+
+mod bytes;
+mod kinds;
+mod laws;
+mod scan;
+mod shaping;
+mod texts;
+mod words;
+
+pub use kinds::{First, Shape, Token, TokenFault, TokenKind};
+pub use laws::{conversion_tokens, longest_text, one_reading, one_shape};
+pub use scan::tokens;
+pub use shaping::shape;
+
+#[cfg(test)]
+mod tests;

@@ -1,0 +1,192 @@
+//! Lines, most with a fault, and what an independent program of the same rules reads in them.
+
+use super::Row;
+
+pub(super) const FAULTY_LINES: [Row; 31] = [
+    Row {
+        line: b"D\x7fO5",
+        kinds: "BadByte",
+        spelled: "",
+        shape: "0 Other",
+    },
+    Row {
+        line: b"PUT (s#m, \x01lower \"zoo\") IN c",
+        kinds: "BadByte",
+        spelled: "",
+        shape: "0 Other",
+    },
+    Row {
+        line: b"=a\x01",
+        kinds: "BadByte",
+        spelled: "",
+        shape: "0 Environment",
+    },
+    Row {
+        line: b"P\tASS",
+        kinds: "BadByte",
+        spelled: "",
+        shape: "0 Other",
+    },
+    Row {
+        line: b"  CHECK NOT (((3/7, 'a')) = (1/3, '~'))\t",
+        kinds: "BadByte",
+        spelled: "",
+        shape: "2 Other",
+    },
+    Row {
+        line: b"    PUT 2 IN t[\tu]",
+        kinds: "BadByte",
+        spelled: "",
+        shape: "4 Other",
+    },
+    Row {
+        line: b"    s > ~\":",
+        kinds: "OpenText",
+        spelled: "",
+        shape: "4 Other",
+    },
+    Row {
+        line: b" WRITE x`3`y ``''`n1`\", z'/",
+        kinds: "OpenText",
+        spelled: "",
+        shape: "1 Other",
+    },
+    Row {
+        line: b": ' MOVE3 _ IN _",
+        kinds: "OpenText",
+        spelled: "",
+        shape: "0 Environment",
+    },
+    Row {
+        line: b"PUT {[~\"]: min l}, u IN t, s|3",
+        kinds: "OpenText",
+        spelled: "",
+        shape: "0 Other",
+    },
+    Row {
+        line: b"  '  PASS",
+        kinds: "OpenText",
+        spelled: "",
+        shape: "2 Other",
+    },
+    Row {
+        line: b"PUT \"1 IN new4",
+        kinds: "OpenText",
+        spelled: "",
+        shape: "0 Other",
+    },
+    Row {
+        line: b" 'FOO x",
+        kinds: "OpenText",
+        spelled: "",
+        shape: "1 Other",
+    },
+    Row {
+        line: b"PUT {} IN \"l",
+        kinds: "OpenText",
+        spelled: "",
+        shape: "0 Other",
+    },
+    Row {
+        line: b"  RETURN {[\"x`{100}`y ``zb`\"]: (-1)*y1}",
+        kinds: "OpenText",
+        spelled: "",
+        shape: "2 Other",
+    },
+    Row {
+        line: b"FOR 0.1111111111111111111111111k5 IN m:",
+        kinds: "BadNumber",
+        spelled: "",
+        shape: "0 colon Other",
+    },
+    Row {
+        line: b"170141183460469231731687303715884105728\"a\"",
+        kinds: "BadNumber",
+        spelled: "",
+        shape: "0 Other",
+    },
+    Row {
+        line: b"170141183460469231731687303715884105728=v",
+        kinds: "BadNumber",
+        spelled: "",
+        shape: "0 Other",
+    },
+    Row {
+        line: b"::0.1111111111111111111111111",
+        kinds: "BadNumber",
+        spelled: "",
+        shape: "0 Environment",
+    },
+    Row {
+        line: b" ",
+        kinds: "",
+        spelled: "",
+        shape: "1 blank Other",
+    },
+    Row {
+        line: b"\\ a comment",
+        kinds: "",
+        spelled: "",
+        shape: "0 blank Other",
+    },
+    Row {
+        line: b"",
+        kinds: "",
+        spelled: "",
+        shape: "0 blank Other",
+    },
+    Row {
+        line: b"  \\ x",
+        kinds: "",
+        spelled: "",
+        shape: "2 blank Other",
+    },
+    Row {
+        line: b"HOW TO ADD2 x0 IN x1: QUIT",
+        kinds: "KKKNKNSK",
+        spelled: "HOW TO ADD2 x0 IN x1 : QUIT",
+        shape: "0 HowTo",
+    },
+    Row {
+        line: b"HOW TO RETURN f2 (x0a, x0b):",
+        kinds: "KKKNSNSNSS",
+        spelled: "HOW TO RETURN f2 ( x0a , x0b ) :",
+        shape: "0 colon HowTo",
+    },
+    Row {
+        line: b"HOW TO DO10: WRITE / {100; 4; 1..3}/",
+        kinds: "KKKSKSSDSDSDSDSS",
+        spelled: "HOW TO DO10 : WRITE / { 100 ; 4 ; 1 .. 3 } /",
+        shape: "0 HowTo",
+    },
+    Row {
+        line: b"HOW TO RETURN keys x: RETURN x: PASS",
+        kinds: "KKKNNSKNSK",
+        spelled: "HOW TO RETURN keys x : RETURN x : PASS",
+        shape: "0 HowTo",
+    },
+    Row {
+        line: b"HOW TO RETURN is.ok7 x0:",
+        kinds: "KKKNNS",
+        spelled: "HOW TO RETURN is.ok7 x0 :",
+        shape: "0 colon HowTo",
+    },
+    Row {
+        line: b"    r3:",
+        kinds: "NS",
+        spelled: "r3 :",
+        shape: "4 colon Heading",
+    },
+    Row {
+        line: b"r5: RETURN 5 max {2; 0.5; 0.5}",
+        kinds: "NSKDNSDSDSDS",
+        spelled: "r5 : RETURN 5 max { 2 ; 0.5 ; 0.5 }",
+        shape: "0 Heading",
+    },
+    Row {
+        line: b"r2: RETURN 4",
+        kinds: "NSKD",
+        spelled: "r2 : RETURN 4",
+        shape: "0 Heading",
+    },
+];

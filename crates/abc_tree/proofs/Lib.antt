@@ -1,0 +1,5 @@
+-- Lemmas on trees.
+pub mod Rising
+pub mod Calling
+mod RegularRows
+mod RegularItemRows

@@ -1,0 +1,12 @@
+-- What the tree of an item is.
+pub mod Templates
+pub mod TemplatesView
+pub mod Ordered
+pub mod Search
+pub mod Units
+pub mod Lists
+pub mod Height
+pub mod Calls
+pub mod Roles
+pub mod Regular
+pub mod RegularItems

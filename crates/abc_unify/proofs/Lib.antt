@@ -1,0 +1,12 @@
+pub mod Trains
+pub mod Solutions
+pub mod Logging
+pub mod Steps
+pub mod Pairs
+pub mod Among
+pub mod Walking
+pub mod Ranking
+pub mod Solved
+pub mod Undoing
+pub mod Forming
+pub mod Backward

@@ -1,0 +1,91 @@
+-- After a local change the visited classes rank by their marks, and the others above them as before.
+use Rattle.std.proofs.Common.{◌≡◌, ℕ, zero, suc, ◌+◌, ◌<◌, ◌≤◌, ◌⊎◌, inl, inr, List, [], ◌∷◌, length, get_or, set, sym, ◌∙◌, ap, subst, arith, refl, get_or-set_other}
+use Rattle.std.proofs.lemmas.Bool.{cases_eq, cases_lt}
+use Rattle.std.proofs.lemmas.List.Elements.{All-head, All-tail}
+use Rattle.std.specs.List.{All}
+use Rattle.abc_unify.specs.declared.kind.Kind.{Kind}
+use Rattle.abc_unify.specs.declared.kind.Kind.TheVariants.{Free}
+use Rattle.abc_unify.specs.declared.kind.Slot.{Slot}
+use Rattle.abc_unify.specs.declared.kind.Slot.TheVariants.{Link, Root}
+use Rattle.abc_unify.specs.declared.log.Entry.{Entry}
+use Rattle.abc_unify.specs.Slots.{SlotsIn, SlotIn, root_of, IsChild, IsRanked}
+use Rattle.abc_unify.specs.Logs.{rolled}
+use Rattle.abc_unify.specs.Cycles.{IsDone, IsSearched}
+use Rattle.abc_unify.proofs.Solutions.{root_of-link, root_of-root}
+
+-- a number by whether another is below two
+abbrev pub either_rank : ℕ → ℕ → ℕ → ℕ
+either_rank zero a b = a
+either_rank (suc zero) a b = a
+either_rank (suc (suc m)) a b = b
+
+low_rank : (m a b : ℕ) → m < 2 → either_rank m a b ≡ a
+low_rank zero a b h = refl
+low_rank (suc zero) a b h = refl
+low_rank (suc (suc m)) a b h = absurd (omega arith)
+
+high_rank : (m a b : ℕ) → 2 ≤ m → either_rank m a b ≡ b
+high_rank zero a b h = absurd (omega arith)
+high_rank (suc zero) a b h = absurd (omega arith)
+high_rank (suc (suc m)) a b h = refl
+
+abbrev pub new_rank : (ℕ → ℕ) → List ℕ → ℕ → ℕ → ℕ
+new_rank rank marks next i = either_rank (get_or marks i 0) (next + rank i) (get_or marks i 0)
+
+module _ (slots slots2 : List Slot) (rank : ℕ → ℕ) (marks : List ℕ) (next : ℕ) (old : IsRanked slots rank) (done : (i : ℕ) → 2 ≤ get_or marks i 0 → (get_or marks i 0 < next) × IsDone slots2 marks i) (kept : (i : ℕ) (k : Kind) → get_or marks i 0 < 2 → get_or slots2 i (Root Free) ≡ Root k → get_or slots i (Root Free) ≡ Root k) (roots : (x : ℕ) → get_or marks (root_of slots2 x) 0 < 2 → root_of slots2 x ≡ root_of slots x) where
+  step_down : (i : ℕ) (k : Kind) (x : ℕ) → get_or slots2 i (Root Free) ≡ Root k → IsChild k x → ((get_or marks i 0 < 2) ⊎ (2 ≤ get_or marks i 0)) → ((get_or marks (root_of slots2 x) 0 < 2) ⊎ (2 ≤ get_or marks (root_of slots2 x) 0)) → new_rank rank marks next (root_of slots2 x) < new_rank rank marks next i
+  step_down i k x is c (inl a) (inl b) =
+      let s : rank (root_of slots2 x) ≡ rank (root_of slots x) = ap rank (roots x b) in
+      let f : rank (root_of slots x) < rank i = old.falls i k x (kept i k a is) c in
+      omega (arith, low_rank (get_or marks i 0) (next + rank i) (get_or marks i 0) a, low_rank (get_or marks (root_of slots2 x) 0) (next + rank (root_of slots2 x)) (get_or marks (root_of slots2 x) 0) b)
+  step_down i k x is c (inl a) (inr b) =
+      omega (arith, (done (root_of slots2 x) b).0, low_rank (get_or marks i 0) (next + rank i) (get_or marks i 0) a, high_rank (get_or marks (root_of slots2 x) 0) (next + rank (root_of slots2 x)) (get_or marks (root_of slots2 x) 0) b)
+  step_down i k x is c (inr a) b =
+      let d : (2 ≤ get_or marks (root_of slots2 x) 0) × (get_or marks (root_of slots2 x) 0 < get_or marks i 0) = (done i a).1 k x is c in
+      omega (arith, high_rank (get_or marks i 0) (next + rank i) (get_or marks i 0) a, high_rank (get_or marks (root_of slots2 x) 0) (next + rank (root_of slots2 x)) (get_or marks (root_of slots2 x) 0) d.0)
+
+  pub ranked_again : IsRanked slots2 (new_rank rank marks next)
+  ranked_again = record { falls = λ i k x is c. step_down i k x is c (cases_lt (get_or marks i 0) 2) (cases_lt (get_or marks (root_of slots2 x) 0) 2) }
+
+-- a slot that no entry names is as before
+unwritten : (slots : List Slot) (log : List Entry) (i : ℕ) (P : ℕ → Type 0) → All (λ e. P e.at.0) log → P i ⊎ (get_or (rolled slots log) i (Root Free) ≡ get_or slots i (Root Free))
+unwritten slots [] i P all = inr refl
+unwritten slots (e ∷ log) i P all =
+    elim (cases_eq i e.at.0) [
+      | inl same ↦ inl (subst (λ j. P j) (sym same) (All-head (λ d. P d.at.0) e log all))
+      | inr apart ↦ behind (get_or-set_other (rolled slots log) e.at.0 i e.was (Root Free) apart) (unwritten slots log i P (All-tail (λ d. P d.at.0) e log all))
+    ]
+  where
+    behind : get_or (set (rolled slots log) e.at.0 e.was) i (Root Free) ≡ get_or (rolled slots log) i (Root Free) → (P i ⊎ (get_or (rolled slots log) i (Root Free) ≡ get_or slots i (Root Free))) → P i ⊎ (get_or (set (rolled slots log) e.at.0 e.was) i (Root Free) ≡ get_or slots i (Root Free))
+    behind same (inl p) = inl p
+    behind same (inr old) = inr (same ∙ old)
+
+module _ (slots slots2 : List Slot) (newer : List Entry) (back : rolled slots2 newer ≡ slots) (inside : SlotsIn slots) (inside2 : SlotsIn slots2) (s : IsSearched slots2 newer) where
+  -- what is not marked as done was not written
+  as_before : (i : ℕ) → get_or s.marks (root_of slots2 i) 0 < 2 → get_or slots i (Root Free) ≡ get_or slots2 i (Root Free)
+  as_before i low = choose (unwritten slots2 newer i (λ j. 2 ≤ get_or s.marks (root_of slots2 j) 0) s.found)
+    where
+      choose : ((2 ≤ get_or s.marks (root_of slots2 i) 0) ⊎ (get_or (rolled slots2 newer) i (Root Free) ≡ get_or slots2 i (Root Free))) → get_or slots i (Root Free) ≡ get_or slots2 i (Root Free)
+      choose (inl high) = absurd (omega arith)
+      choose (inr same) = ap (λ t. get_or t i (Root Free)) (sym back) ∙ same
+
+  roots_before : (f x : ℕ) → x < f → get_or s.marks (root_of slots2 x) 0 < 2 → root_of slots2 x ≡ root_of slots x
+  roots_before zero x h low = absurd (omega arith)
+  roots_before (suc f) x h low = by_slot (λ y below. roots_before f y (omega arith)) (get_or slots2 x (Root Free)) refl
+    where
+      by_slot : ((y : ℕ) → y < x → get_or s.marks (root_of slots2 y) 0 < 2 → root_of slots2 y ≡ root_of slots y) → (t : Slot) → get_or slots2 x (Root Free) ≡ t → root_of slots2 x ≡ root_of slots x
+      by_slot again (Root k) is = root_of-root slots2 x k is ∙ sym (root_of-root slots x k (as_before x low ∙ is))
+      by_slot again (Link b) is =
+          let on : root_of slots2 x ≡ root_of slots2 b.0 = root_of-link slots2 x b inside2 is in
+          let before : root_of slots x ≡ root_of slots b.0 = root_of-link slots x b inside (as_before x low ∙ is) in
+          let below : b.0 < x = subst (λ t. SlotIn (length slots2) x t) is (inside2 x) in
+          on ∙ (again b.0 below (subst (λ r. get_or s.marks r 0 < 2) on low) ∙ sym before)
+
+  pub ranked_after : (rank : ℕ → ℕ) → IsRanked slots rank → (rank2 : ℕ → ℕ) × IsRanked slots2 rank2
+  ranked_after rank old = (
+    new_rank rank s.marks s.next,
+    ranked_again slots slots2 rank s.marks s.next old
+        (λ i two. (s.marked.early i, s.marked.done i two))
+        (λ i k low is. as_before i (subst (λ r. get_or s.marks r 0 < 2) (sym (root_of-root slots2 i k is)) low) ∙ is)
+        (λ x low. roots_before (suc x) x (omega arith) low),
+  )

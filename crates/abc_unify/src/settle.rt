@@ -1,0 +1,77 @@
+//! Takes what is asked into the slots until no class is on a cycle.
+ghost use Rattle.std.specs.Prelude.{◌≡◌, ℕ, ◌<◌, ◌^◌, [], length, IfOk, IsTrue};
+ghost use Rattle.abc_unify.specs.Kinds.{AsksIn};
+ghost use Rattle.abc_unify.specs.Slots.{SlotsIn, IsRanked, Stepped, weight};
+ghost use Rattle.abc_unify.specs.Logs.{IsLogged};
+ghost use Rattle.abc_unify.specs.Cycles.{IsOnCycle};
+
+use crate::classes::kind_at;
+use crate::cycle::find_cycle;
+use crate::kind::{Ask, Kind, Slot};
+use crate::log::{Entry, write};
+use crate::solve::solve;
+use abc_terms::VarId;
+use std::alloc::{AllocError, Global};
+
+/// Makes text of a class on a cycle, and asks that of its element. False is for a class that cannot be text.
+fn make_text(
+    slots: &mut [Slot],
+    log: &mut Vec<Entry>,
+    work: &mut Vec<Ask>,
+    top: VarId,
+) -> Result<bool, AllocError>
+    requires slots { SlotsIn slots.old }
+    requires work { work.old.items ≡ [] }
+    requires cycle { IsOnCycle slots.old top.0 }
+    ensures slots { IfOk result (λ _. SlotsIn slots.new) }
+    ensures work { IfOk result (λ _. AsksIn (length slots.new) work.new.items) }
+    ensures solutions { IfOk result (λ yes. Stepped yes slots.old [] slots.new work.new.items) }
+    ensures lighter { IfOk result (λ yes. IsTrue yes → weight slots.new work.new.items < weight slots.old []) }
+    ensures logged { IsLogged slots.old log.old.items slots.new log.new.items }
+{
+    let element = match kind_at(slots, top) {
+        Kind::TrainOf(e) => *e,
+        Kind::ListOf(_) => return Ok(false),
+        Kind::TableOf(_, _) => return Ok(false),
+        Kind::CollectionOf(_) => return Ok(false),
+        Kind::Compound(_) => return Ok(false),
+        Kind::Free => unreachable!(),
+        Kind::Number => unreachable!(),
+        Kind::Text => unreachable!(),
+        Kind::NumberOrText => unreachable!(),
+    };
+    work.push(Ask::Is(element, Kind::Text))?;
+    write(slots, log, top, Slot::Root(Kind::Text))?;
+    Ok(true)
+}
+
+/// Takes all that is asked into the slots, so that classes rank. False is for what no types meet.
+pub fn settle(
+    alloc: Global,
+    slots: &mut [Slot],
+    log: &mut Vec<Entry>,
+    work: &mut Vec<Ask>,
+) -> Result<bool, AllocError>
+    requires slots { SlotsIn slots.old }
+    requires work { AsksIn (length slots.old) work.old.items }
+    requires ranked { (rank : ℕ → ℕ) × IsRanked slots.old rank }
+    requires few { length slots.old < 2 ^ 32 }
+    ensures slots { IfOk result (λ _. SlotsIn slots.new) }
+    ensures solutions { IfOk result (λ yes. Stepped yes slots.old work.old.items slots.new []) }
+    ensures ranked { IfOk result (λ yes. IsTrue yes → (rank : ℕ → ℕ) × IsRanked slots.new rank) }
+    ensures logged { IsLogged slots.old log.old.items slots.new log.new.items }
+{
+    let before = log.len();
+    if !solve(alloc, slots, log, work)? {
+        return Ok(false);
+    }
+    while let Some(top) = find_cycle(alloc, slots, &log[before..])? {
+        if !make_text(slots, log, work, VarId(top as u32))? {
+            return Ok(false);
+        }
+        if !solve(alloc, slots, log, work)? {
+            return Ok(false);
+        }
+    }
+    Ok(true)
+}
