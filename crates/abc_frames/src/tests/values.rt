@@ -1,0 +1,64 @@
+//! Worked values, and that ample memory is enough for the calls on them. They stand here and not in abc_value, where each drop
+//! of a value is taken apart in the proof of a test.
+ghost use Rattle.std.specs.Prelude.{◌≡◌, IfOk};
+ghost use Rattle.abc_value.specs.Parts.{IsList, IsTable};
+
+mod calls;
+mod shapes;
+mod speed;
+
+use abc_num::Num;
+use abc_value::*;
+use std::alloc::Global;
+
+/// The value that is the number `p / q`.
+fn ratio(p: i128, q: i128) -> Result<Value, ValueFault> {
+    match Num::ratio(p, q) {
+        Ok(n) => Ok(Value::number(n)),
+        Err(_) => Err(ValueFault::NotWhole),
+    }
+}
+
+fn whole(n: i128) -> Result<Value, ValueFault> {
+    ratio(n, 1)
+}
+
+fn pair(alloc: Global, first: Value, second: Value) -> Result<Value, ValueFault> {
+    let mut fields = Vec::new(alloc);
+    fields.push(first)?;
+    fields.push(second)?;
+    Value::compound(fields)
+}
+
+/// The list of these whole numbers.
+fn list(alloc: Global, elements: &[i128]) -> Result<Value, ValueFault>
+    ensures { IfOk result IsList }
+{
+    let mut all = Value::empty(alloc);
+    for n in elements {
+        all.insert(whole(*n)?)?;
+    }
+    Ok(all)
+}
+
+/// The table of these keys and associates.
+fn table(alloc: Global, pairs: &[(i128, i128)]) -> Result<Value, ValueFault>
+    ensures { IfOk result IsTable }
+{
+    let mut all = Value::empty(alloc);
+    for (k, a) in pairs {
+        all.put(whole(*k)?, whole(*a)?)?;
+    }
+    Ok(all)
+}
+
+/// Whether the value is this whole number.
+fn is_whole(v: Option<&Value>, n: i128) -> bool {
+    match v {
+        Some(v) => match v.as_number() {
+            Some(x) => x.to_whole() == Some(n),
+            None => false,
+        },
+        None => false,
+    }
+}

@@ -1,0 +1,95 @@
+use Rattle.std.proofs.Common.{◌≡◌, arith, length, map, sym, ap, ◌∙◌, Some, None}
+use Rattle.abc_value.specs.Tree.{trees, pairs}
+use Rattle.abc_value.specs.Sizes.{height_of, length_of}
+use Rattle.std.specs.Option.{option_map}
+use Rattle.std.proofs.lemmas.Bool.Decides.{nat_tests}
+use Rattle.abc_value.proofs.Rows.{count_trees}
+use Rattle.abc_value.specs.Forms.{anything, a_list, form_of, forms_of, common, common_key, common_associate}
+use Rattle.abc_value.specs.declared.value.Entry.{Entry}
+use Rattle.abc_value.specs.View.{node_tree, as_pair}
+use Rattle.abc_value.proofs.Comparing.{part_below, entry_below}
+use Rattle.abc_value.proofs.ShapeSteps.{forms_turn, forms_stop, forms_done, common_stop, unformed, unjoined, key_stop, associate_stop, list_form}
+use Rattle.abc_value.proofs.+form.Goals as goal
+
+pub forming::shapes_of-of-requires : goal.forming::shapes_of-of-requires
+forming::shapes_of-of-requires t c =
+    let below = part_below c.args.parts.now c.loop-part.part-index c.part-item.result (omega arith) c.part-item.is in
+    (omega arith, tt)
+
+pub forming::common_shape-of-requires : goal.forming::common_shape-of-requires
+forming::common_shape-of-requires t c =
+    let below = part_below c.args.parts.now c.loop-part.part-index c.part-item.result (omega arith) c.part-item.is in
+    (omega arith, tt)
+
+pub forming::key_shape-of-requires : goal.forming::key_shape-of-requires
+forming::key_shape-of-requires t c =
+    let below = entry_below c.args.entries.now c.loop-entry.entry-index c.entry-item.result (omega arith) in
+    (omega (arith, below.0, ap (λ (e : Entry). height_of e.key) c.entry-item.is), tt)
+
+pub forming::associate_shape-of-requires : goal.forming::associate_shape-of-requires
+forming::associate_shape-of-requires t c =
+    let below = entry_below c.args.entries.now c.loop-entry.entry-index c.entry-item.result (omega arith) in
+    (omega (arith, below.1, ap (λ (e : Entry). height_of e.associate) c.entry-item.is), tt)
+
+pub forming::shapes_of-returns-in_default : goal.forming::shapes_of-returns-in_default
+forming::shapes_of-returns-in_default t c =
+    forms_stop (forms_of (trees c.args.parts.now)) c.args.parts.now c.loop-part.shapes.items c.loop-part.part-index c.part-item.result c.loop-part.invariant (omega arith) c.part-item.is
+    (sym c.in_default.is ∙ c.in_ok-shape.ensures)
+
+pub forming::shapes_of-loop-part-preserved : goal.forming::shapes_of-loop-part-preserved
+forming::shapes_of-loop-part-preserved t c =
+    rw c.in_ok-push.ensures.items (forms_turn (forms_of (trees c.args.parts.now)) c.args.parts.now c.loop-part.shapes.items c.loop-part.part-index c.part-item.result c.in-Some.shape c.loop-part.invariant (omega arith) c.part-item.is
+    (sym c.in-Some.is ∙ c.in_ok-shape.ensures))
+
+pub forming::shapes_of-returns : goal.forming::shapes_of-returns
+forming::shapes_of-returns t c = forms_done (forms_of (trees c.args.parts.now)) c.args.parts.now c.loop-part.shapes.items c.loop-part.part-index c.loop-part.invariant (omega arith)
+
+pub forming::common_shape-returns-in_default : goal.forming::common_shape-returns-in_default
+forming::common_shape-returns-in_default t c =
+    common_stop (common (Some anything) (trees c.args.parts.now)) c.args.parts.now c.loop-part.all c.loop-part.part-index c.part-item.result c.loop-part.invariant (omega arith) c.part-item.is
+    (unformed c.loop-part.all c.part-item.result (sym c.in_default.is ∙ c.in_ok-shape.ensures))
+
+pub forming::common_shape-returns-in_default-2 : goal.forming::common_shape-returns-in_default-2
+forming::common_shape-returns-in_default-2 t c =
+    common_stop (common (Some anything) (trees c.args.parts.now)) c.args.parts.now c.loop-part.all c.loop-part.part-index c.part-item.result c.loop-part.invariant (omega arith) c.part-item.is
+    (unjoined c.loop-part.all c.in-Some.shape c.part-item.result (sym c.in-Some.is ∙ c.in_ok-shape.ensures) (sym c.in_default-2.is ∙ c.in_ok-next.ensures))
+
+pub forming::key_shape-returns-in_default : goal.forming::key_shape-returns-in_default
+forming::key_shape-returns-in_default t c =
+    key_stop (common_key (Some anything) (pairs (map as_pair c.args.entries.now))) c.args.entries.now c.loop-entry.all c.loop-entry.entry-index c.entry-item.result c.loop-entry.invariant (omega arith) c.entry-item.is
+    (unformed c.loop-entry.all c.entry-item.result.key (sym c.in_default.is ∙ c.in_ok-shape.ensures))
+
+pub forming::key_shape-returns-in_default-2 : goal.forming::key_shape-returns-in_default-2
+forming::key_shape-returns-in_default-2 t c =
+    key_stop (common_key (Some anything) (pairs (map as_pair c.args.entries.now))) c.args.entries.now c.loop-entry.all c.loop-entry.entry-index c.entry-item.result c.loop-entry.invariant (omega arith) c.entry-item.is
+    (unjoined c.loop-entry.all c.in-Some.shape c.entry-item.result.key (sym c.in-Some.is ∙ c.in_ok-shape.ensures) (sym c.in_default-2.is ∙ c.in_ok-next.ensures))
+
+pub forming::associate_shape-returns-in_default : goal.forming::associate_shape-returns-in_default
+forming::associate_shape-returns-in_default t c =
+    associate_stop (common_associate (Some anything) (pairs (map as_pair c.args.entries.now))) c.args.entries.now c.loop-entry.all c.loop-entry.entry-index c.entry-item.result c.loop-entry.invariant (omega arith) c.entry-item.is
+    (unformed c.loop-entry.all c.entry-item.result.associate (sym c.in_default.is ∙ c.in_ok-shape.ensures))
+
+pub forming::associate_shape-returns-in_default-2 : goal.forming::associate_shape-returns-in_default-2
+forming::associate_shape-returns-in_default-2 t c =
+    associate_stop (common_associate (Some anything) (pairs (map as_pair c.args.entries.now))) c.args.entries.now c.loop-entry.all c.loop-entry.entry-index c.entry-item.result c.loop-entry.invariant (omega arith) c.entry-item.is
+    (unjoined c.loop-entry.all c.in-Some.shape c.entry-item.result.associate (sym c.in-Some.is ∙ c.in_ok-shape.ensures) (sym c.in_default-2.is ∙ c.in_ok-next.ensures))
+
+pub shape::Shape::of-returns-in_ok-list-in-Some-2 : goal.shape::Shape::of-returns-in_ok-list-in-Some-2
+shape::Shape::of-returns-in_ok-list-in-Some-2 t c =
+    let xs = c.in-List-2.elements.items in
+    let same = ap (λ n. length_of (node_tree n)) (sym c.in-List.is ∙ c.in-List-2.is) in
+    let some : length c.in-List.elements.items ≡ 0 → ⊥ = (λ h. let e = c.is_empty.ensures in grind (arith, nat_tests)) in
+    let found : Some c.in-Some-2.shape ≡ common (Some anything) (trees xs) = sym c.in-Some-2.is ∙ c.in_ok-shape-in-List-2.ensures ∙ ap (λ ys. common (Some anything) (trees ys)) c.deref-in-List-2.ensures.value in
+    ap Some c.in_ok-list-in-Some-2.ensures ∙ ap (option_map a_list) found
+    ∙ list_form xs (λ h. some (omega (arith, same, h, count_trees xs, count_trees c.in-List.elements.items)))
+    ∙ ap (λ n. form_of (node_tree n)) (sym c.in-List-2.is) ∙ ap form_of c.v.view_is
+
+pub shape::Shape::of-returns-in-None-2 : goal.shape::Shape::of-returns-in-None-2
+shape::Shape::of-returns-in-None-2 t c =
+    let xs = c.in-List-2.elements.items in
+    let same = ap (λ n. length_of (node_tree n)) (sym c.in-List.is ∙ c.in-List-2.is) in
+    let some : length c.in-List.elements.items ≡ 0 → ⊥ = (λ h. let e = c.is_empty.ensures in grind (arith, nat_tests)) in
+    let found : None ≡ common (Some anything) (trees xs) = sym c.in-None-2.is ∙ c.in_ok-shape-in-List-2.ensures ∙ ap (λ ys. common (Some anything) (trees ys)) c.deref-in-List-2.ensures.value in
+    ap (option_map a_list) found
+    ∙ list_form xs (λ h. some (omega (arith, same, h, count_trees xs, count_trees c.in-List.elements.items)))
+    ∙ ap (λ n. form_of (node_tree n)) (sym c.in-List-2.is) ∙ ap form_of c.v.view_is

@@ -1,0 +1,34 @@
+use Rattle.std.proofs.Common.{◌≡◌, ◌+◌, ◌*◌, drop, map, Some}
+use Rattle.abc_value.specs.Tree.{trees, pairs}
+use Rattle.abc_value.specs.Sizes.{height_of, trees_height, pairs_height}
+use Rattle.abc_value.specs.Forms.{anything, forms_of, common, common_key, common_associate}
+use Rattle.abc_value.specs.View.{as_pair}
+use Rattle.abc_value.proofs.ShapeSteps.{in_front}
+use Rattle.abc_value.proofs.+form.Given as goal
+
+abbrev pub decreases-shape::Shape::of : goal.decreases-shape::Shape::of
+decreases-shape::Shape::of l = 2 * height_of l.v.now + 1
+
+abbrev pub decreases-forming::shapes_of : goal.decreases-forming::shapes_of
+decreases-forming::shapes_of l = 2 * trees_height (trees l.parts.now)
+
+abbrev pub decreases-forming::common_shape : goal.decreases-forming::common_shape
+decreases-forming::common_shape l = 2 * trees_height (trees l.parts.now)
+
+abbrev pub decreases-forming::key_shape : goal.decreases-forming::key_shape
+decreases-forming::key_shape l = 2 * pairs_height (pairs (map as_pair l.entries.now))
+
+abbrev pub decreases-forming::associate_shape : goal.decreases-forming::associate_shape
+decreases-forming::associate_shape l = 2 * pairs_height (pairs (map as_pair l.entries.now))
+
+abbrev pub invariant-forming::shapes_of-loop-part : goal.invariant-forming::shapes_of-loop-part
+invariant-forming::shapes_of-loop-part l = forms_of (trees l.parts) ≡ in_front l.shapes.items (forms_of (trees (drop l.part-index l.parts)))
+
+abbrev pub invariant-forming::common_shape-loop-part : goal.invariant-forming::common_shape-loop-part
+invariant-forming::common_shape-loop-part l = common (Some anything) (trees l.parts) ≡ common (Some l.all) (trees (drop l.part-index l.parts))
+
+abbrev pub invariant-forming::key_shape-loop-entry : goal.invariant-forming::key_shape-loop-entry
+invariant-forming::key_shape-loop-entry l = common_key (Some anything) (pairs (map as_pair l.entries)) ≡ common_key (Some l.all) (pairs (map as_pair (drop l.entry-index l.entries)))
+
+abbrev pub invariant-forming::associate_shape-loop-entry : goal.invariant-forming::associate_shape-loop-entry
+invariant-forming::associate_shape-loop-entry l = common_associate (Some anything) (pairs (map as_pair l.entries)) ≡ common_associate (Some l.all) (pairs (map as_pair (drop l.entry-index l.entries)))

@@ -1,0 +1,17 @@
+pub mod Adding
+pub mod Comparing
+pub mod Grounds
+pub mod Itemised
+pub mod Joins
+pub mod Keys
+pub mod ByKind
+pub mod Making
+pub mod Pairing
+pub mod OrderLaws
+pub mod Placing
+pub mod Ranges
+pub mod Removing
+pub mod Rows
+pub mod ShapeSteps
+pub mod Shaping
+pub mod Tables

@@ -1,0 +1,121 @@
+-- Lists in order that are made at once, and ranges.
+use Rattle.std.proofs.Common.{◌≡◌, ◌≢◌, ℕ, zero, suc, ◌+◌, ◌<◌, ◌^◌, ℤ, pos, ◌*ℤ◌, List, [], ◌∷◌, ◌++◌, length, refl, sym, ap, ◌∙◌, arith, Some, None, Result, Ok, Err, inl, inr, ◌⊎◌, add-one}
+use Rattle.std.specs.Prelude.{◌+ℤ◌, ◌-ℤ◌, ◌<ℤ◌, unsigned_abs, IfOk}
+use Rattle.std.specs.declared.cmp.Ordering.TheVariants.{Less, Equal}
+use Rattle.std.specs.Ordering.{nat_cmp, ordering_then}
+use Rattle.std.proofs.lemmas.Int.{ints, to_z-of_z}
+use mir.Val.{to_z, of_z, SFits}
+use mir.Syntax.{w128}
+use Rattle.std.proofs.Common.{rules}
+use Rattle.std.proofs.lemmas.Bool.Decides.{nat_tests}
+use Rattle.abc_num.specs.declared.limits.TheConstants.{MOST_ELEMENTS}
+use Rattle.abc_num.specs.Number.{Fraction, IsNumber, whole_number, whole_of}
+use Rattle.abc_num.proofs.Order.{is_less, whole_of-some}
+use Rattle.abc_value.specs.declared.faults.ValueFault.{ValueFault}
+use Rattle.abc_value.specs.declared.faults.ValueFault.TheVariants.{NoElement, NoKey, OutOfRange, NotWhole, TooLong, TooDeep, TooLarge, Memory}
+use Rattle.abc_value.specs.Tree.{Tree, number, text, list, trees}
+use Rattle.abc_value.specs.Order.{order}
+use Rattle.abc_value.specs.Sizes.{count, height_of, weight_of, trees_height, trees_weight, sizes_fault, size_fault, IsMakingOf}
+use Rattle.abc_value.specs.Regular.{IsRegular, AllRegular, IsOrdered}
+use Rattle.abc_value.specs.Items.{IsAnswer, if_small, by_fault, numbers_from, characters_from, count_of}
+use Rattle.abc_value.proofs.Rows.{count_trees}
+use Rattle.abc_value.proofs.Adding.{AreSmall, small_sizes}
+use Rattle.abc_value.proofs.Making.{too_long}
+use Rattle.abc_value.proofs.Placing.{less_not_greater}
+
+pub list_too_long : (xs : List Tree) → MOST_ELEMENTS < length xs → size_fault (list (trees xs)) ≡ Some TooLong
+unfolding size_fault
+list_too_long xs h = too_long (count (trees xs)) (trees_height (trees xs)) (trees_weight (trees xs) + 5) (omega (arith, count_trees xs))
+
+pub list_fault : (xs : List Tree) (h w : ℕ) → h ≡ trees_height (trees xs) → w ≡ trees_weight (trees xs) + 5 → sizes_fault (length xs) h w ≡ size_fault (list (trees xs))
+unfolding size_fault
+list_fault xs h w p q = λ i. sizes_fault (sym (count_trees xs) i) (p i) (q i)
+
+pub list_invariant : (xs : List Tree) (h w : ℕ) → IsOrdered (trees xs) → AllRegular (trees xs) → h ≡ trees_height (trees xs) → w ≡ trees_weight (trees xs) + 5 → sizes_fault (length xs) h w ≡ None → (h ≡ height_of (list (trees xs))) × (w ≡ weight_of (list (trees xs))) × IsRegular (list (trees xs))
+unfolding IsRegular
+list_invariant xs h w o a p q small =
+    let s : AreSmall (length xs) h w = small_sizes (length xs) h w small in
+    let n = count_trees xs in
+    (p, q, ((omega (arith, s.long), omega (arith, s.high), omega (arith, s.heavy)), o, a))
+
+is_memory : (f : ValueFault) → (f ≡ Memory) ⊎ (f ≢ Memory)
+is_memory Memory = inl refl
+is_memory NoElement = inr (λ e. cc)
+is_memory NoKey = inr (λ e. cc)
+is_memory OutOfRange = inr (λ e. cc)
+is_memory NotWhole = inr (λ e. cc)
+is_memory TooLong = inr (λ e. cc)
+is_memory TooDeep = inr (λ e. cc)
+is_memory TooLarge = inr (λ e. cc)
+
+-- making a value answers it, or the fault of its size
+pub made_answer : (t : Tree) (r : Result Tree ValueFault) → IfOk r (λ v. v ≡ t) → IsMakingOf t r → IsAnswer (if_small t) r
+made_answer t (Ok v) h m = inl (ap Ok h ∙ ap (by_fault t) (sym m))
+made_answer t (Err f) h m = by_kind t f m
+  where
+    by_kind : (t : Tree) (f : ValueFault) → (f ≢ Memory → size_fault t ≡ Some f) → IsAnswer (if_small t) (Err f)
+    by_kind t f m = elim (is_memory f) [
+      | inl e ↦ inr (ap Err e)
+      | inr n ↦ inl (ap (by_fault t) (sym (m n)))
+    ]
+
+-- ---- numbers
+pub numbers_length : (p : ℤ) (n : ℕ) → length (numbers_from p n) ≡ n
+numbers_length p zero = refl
+numbers_length p (suc n) = ap suc (numbers_length (p +ℤ pos 1) n)
+
+pub numbers_more : (p : ℤ) (n : ℕ) → numbers_from p n ++ number (whole_number (p +ℤ pos n)) ∷ [] ≡ numbers_from p (suc n)
+numbers_more p zero = let e : p +ℤ pos 0 ≡ p = omega (arith, ints) in ap (λ z. number (whole_number z) ∷ []) e
+numbers_more p (suc n) =
+    let e : p +ℤ pos (suc n) ≡ (p +ℤ pos 1) +ℤ pos n = omega (arith, ints) in
+    ap (λ xs. number (whole_number p) ∷ xs) (ap (λ z. numbers_from (p +ℤ pos 1) n ++ number (whole_number z) ∷ []) e ∙ numbers_more (p +ℤ pos 1) n)
+
+next_greater : (p : ℤ) → order (number (whole_number p)) (number (whole_number (p +ℤ pos 1))) ≡ Less
+next_greater p =
+    let h : (p *ℤ pos 1) <ℤ ((p +ℤ pos 1) *ℤ pos 1) = omega (arith, ints) in
+    is_less (p *ℤ pos 1) ((p +ℤ pos 1) *ℤ pos 1) h
+
+pub numbers_ordered : (p : ℤ) (n : ℕ) → IsOrdered (trees (numbers_from p n))
+numbers_ordered p zero = tt
+numbers_ordered p (suc zero) = tt
+numbers_ordered p (suc (suc n)) = (less_not_greater _ (next_greater p), numbers_ordered (p +ℤ pos 1) (suc n))
+
+-- ---- characters
+pub characters_more : (c n : ℕ) → characters_from c n ++ text ((c + n) ∷ []) ∷ [] ≡ characters_from c (suc n)
+characters_more c zero = let e : c + 0 ≡ c = omega arith in ap (λ d. text (d ∷ []) ∷ []) e
+characters_more c (suc n) =
+    let e : c + suc n ≡ (c + 1) + n = omega arith in
+    ap (λ xs. text (c ∷ []) ∷ xs) (ap (λ d. characters_from (c + 1) n ++ text (d ∷ []) ∷ []) e ∙ characters_more (c + 1) n)
+
+next_character : (c : ℕ) → order (text (c ∷ [])) (text ((c + 1) ∷ [])) ≡ Less
+next_character c = let h : nat_cmp c (c + 1) ≡ Less = grind (arith, nat_tests) in ap (λ r. ordering_then r Equal) h
+
+pub characters_ordered : (c n : ℕ) → IsOrdered (trees (characters_from c n))
+characters_ordered c zero = tt
+characters_ordered c (suc zero) = tt
+characters_ordered c (suc (suc n)) = (less_not_greater _ (next_character c), characters_ordered (c + 1) (suc n))
+
+-- the whole number that a number is has 127 bits
+pub whole_fits : (x : Fraction) (n : ℤ) → IsNumber x → Some n ≡ whole_of x → unsigned_abs n < 2 ^ 127
+unfolding IsNumber
+whole_fits x n (inl i) e = let w = whole_of-some x n e in omega (arith, i.1, ap unsigned_abs w.1)
+whole_fits x n (inr i) e = let w = whole_of-some x n e in absurd (omega (arith, i.0, w.0))
+
+pub too_many_numbers : (p q : ℤ) (n : ℕ) → MOST_ELEMENTS < n → n ≡ count_of (q -ℤ p +ℤ pos 1) → IsAnswer (if_small (list (trees (numbers_from p (count_of (q -ℤ p +ℤ pos 1)))))) (Err TooLong)
+too_many_numbers p q n h e =
+    let t = list (trees (numbers_from p (count_of (q -ℤ p +ℤ pos 1)))) in
+    inl (ap (by_fault t) (sym (list_too_long (numbers_from p (count_of (q -ℤ p +ℤ pos 1))) (omega (arith, numbers_length p (count_of (q -ℤ p +ℤ pos 1)))))))
+
+pub push_number : (p : ℤ) (n : ℕ) (xs ys : List Tree) (v : Tree) → xs ≡ numbers_from p n → v ≡ number (whole_number (p +ℤ pos n)) → ys ≡ xs ++ v ∷ [] → ys ≡ numbers_from p (n + 1)
+push_number p n xs ys v e f g =
+    g ∙ (λ i. e i ++ f i ∷ []) ∙ numbers_more p n ∙ ap (numbers_from p) (sym (add-one n))
+
+pub push_character : (c n : ℕ) (xs ys : List Tree) (v : Tree) → xs ≡ characters_from c n → v ≡ text ((c + n) ∷ []) → ys ≡ xs ++ v ∷ [] → ys ≡ characters_from c (n + 1)
+push_character c n xs ys v e f g =
+    g ∙ (λ i. e i ++ f i ∷ []) ∙ characters_more c n ∙ ap (characters_from c) (sym (add-one n))
+
+-- a number of 127 bits is passed as it is
+pub passed : (z : ℤ) → unsigned_abs z < 2 ^ 127 → unsigned_abs (to_z w128 (of_z w128 z)) < 2 ^ 127
+passed z h =
+    let f : SFits w128 z = search (rules, ints, h) in
+    rw (to_z-of_z w128 z f) h

@@ -1,0 +1,17 @@
+pub mod Changes
+pub mod Code
+pub mod Falls
+pub mod FormCode
+pub mod Forms
+pub mod Items
+pub mod Laws
+pub mod Order
+pub mod Parts
+pub mod Regular
+pub mod ShapeFalls
+pub mod ShapeLaws
+pub mod ShapeView
+pub mod Sizes
+pub mod Tree
+pub mod Types
+pub mod View

@@ -1,0 +1,65 @@
+//! Equal values in memory of their own.
+ghost use Rattle.std.specs.Prelude.{◌≡◌, IfOk, IfErr};
+
+use crate::value::{Entry, Node};
+use crate::{Value, ValueFault};
+use std::alloc::AllocError;
+
+impl Value {
+    /// An equal value.
+    #[cycle(copy)]
+    pub fn copy(&self) -> Result<Value, ValueFault>
+        ensures ok { IfOk result (λ v. v ≡ self.now) }
+        ensures err { IfErr result (λ f. f ≡ ValueFault.Memory) }
+    {
+        let node = match &self.node {
+            Node::Number(n) => Node::Number(*n),
+            Node::Text(codes) => Node::Text(Vec::from_slice(*codes.allocator(), codes)?),
+            Node::Compound(parts) => Node::Compound(copy_all(parts)?),
+            Node::List(parts) => Node::List(copy_all(parts)?),
+            Node::Table(entries) => Node::Table(copy_entries(entries)?),
+        };
+        Ok(Value {
+            node,
+            height: self.height,
+            weight: self.weight,
+        })
+    }
+}
+
+impl Clone for Value {
+    ghost is_clone = { λ v copy. copy ≡ v };
+
+    fn clone(&self) -> Result<Value, AllocError> {
+        match self.copy() {
+            Ok(v) => Ok(v),
+            Err(_) => Err(AllocError),
+        }
+    }
+}
+
+#[cycle(copy)]
+fn copy_all(parts: &Vec<Value>) -> Result<Vec<Value>, ValueFault>
+    ensures ok { IfOk result (λ v. v.items ≡ parts.now.items) }
+    ensures err { IfErr result (λ f. f ≡ ValueFault.Memory) }
+{
+    let mut all = Vec::new(*parts.allocator());
+    for part in parts {
+        all.push(part.copy()?)?;
+    }
+    Ok(all)
+}
+
+#[cycle(copy)]
+fn copy_entries(entries: &Vec<Entry>) -> Result<Vec<Entry>, ValueFault>
+    ensures ok { IfOk result (λ v. v.items ≡ entries.now.items) }
+    ensures err { IfErr result (λ f. f ≡ ValueFault.Memory) }
+{
+    let mut all = Vec::new(*entries.allocator());
+    for entry in entries {
+        let key = entry.key.copy()?;
+        let associate = entry.associate.copy()?;
+        all.push(Entry { key, associate })?;
+    }
+    Ok(all)
+}

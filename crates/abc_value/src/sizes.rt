@@ -1,0 +1,72 @@
+//! Tests and sums of the sizes of values that are to be made.
+ghost use Rattle.std.specs.Prelude.{◌≡◌, ◌≤◌, ◌*◌, length, MatchResult, map, Some, None};
+ghost use Rattle.abc_value.specs.Tree.{trees, pairs};
+ghost use Rattle.abc_value.specs.View.{as_pair};
+ghost use Rattle.abc_value.specs.Sizes.{sizes_fault, trees_height, pairs_height, trees_weight};
+ghost use Rattle.abc_value.specs.Regular.{AllRegular};
+
+use crate::value::Entry;
+use crate::{Value, ValueFault};
+use abc_num::limits::{MOST_ELEMENTS, MOST_VALUE_HEIGHT, MOST_WEIGHT};
+
+/// Tests sizes against their bounds.
+#[tactic(auto, unfolding(crate::specs::Sizes::sizes_fault))]
+pub(crate) fn check_sizes(length: usize, height: u32, weight: u64) -> Result<(), ValueFault>
+    ensures { MatchResult result (λ _. sizes_fault length height weight ≡ None)
+        (λ f. sizes_fault length height weight ≡ Some f) }
+{
+    if length > MOST_ELEMENTS {
+        return Err(ValueFault::TooLong);
+    }
+    if height > MOST_VALUE_HEIGHT {
+        return Err(ValueFault::TooDeep);
+    }
+    if weight > MOST_WEIGHT {
+        return Err(ValueFault::TooLarge);
+    }
+    Ok(())
+}
+
+/// The height of a value of these parts, which is at most `most`.
+pub(crate) fn tallest(parts: &[Value], most: u32) -> u32
+    requires { trees_height (trees parts.now) ≤ most }
+    ensures { result ≡ trees_height (trees parts.now) }
+{
+    let mut height: u32 = 0;
+    for part in parts {
+        height = height.max(part.height() + 1);
+        if height == most {
+            return height;
+        }
+    }
+    height
+}
+
+/// The height of a table of these entries, which is at most `most`.
+pub(crate) fn tallest_entry(entries: &[Entry], most: u32) -> u32
+    requires { pairs_height (pairs (map as_pair entries.now)) ≤ most }
+    ensures { result ≡ pairs_height (pairs (map as_pair entries.now)) }
+{
+    let mut height: u32 = 0;
+    for entry in entries {
+        height = height.max(entry.key.height().max(entry.associate.height()) + 1);
+        if height == most {
+            return height;
+        }
+    }
+    height
+}
+
+/// The sum of the weights of these parts.
+pub(crate) fn total_weight(parts: &[Value]) -> u64
+    requires { length parts.now ≤ MOST_ELEMENTS }
+    ensures weight { result ≡ trees_weight (trees parts.now) }
+    ensures bound { result ≤ length parts.now * MOST_WEIGHT }
+    ensures regular { AllRegular (trees parts.now) }
+{
+    let mut weight: u64 = 0;
+    for part in parts {
+        weight += part.weight();
+    }
+    weight
+}
