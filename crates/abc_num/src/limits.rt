@@ -54,6 +54,9 @@ pub const MOST_RECORD_BYTES: u64 = 268_435_456;
 /// Depth of an evaluation.
 pub const MOST_DEPTH: u32 = 1_000;
 
+/// Variables of a unification: 2^32 - 1.
+pub const MOST_VARIABLES: usize = 4_294_967_295;
+
 /// The least budget of steps.
 pub const LEAST_STEPS: u64 = 1;
 

@@ -17,11 +17,9 @@ use crate::log::{Entry, roll_back};
 use crate::node::slot_of;
 use crate::settle::settle;
 use abc_num::OutOfMemory;
+use abc_num::limits::MOST_VARIABLES;
 use abc_terms::{Demand, Term, VarId};
 use std::alloc::{AllocError, Global};
-
-/// The most variables of a graph: 2^32 - 1.
-const MOST_VARIABLES: usize = 4_294_967_295;
 
 /// How much there was of each at an earlier state.
 #[derive(Clone, Copy)]
