@@ -9,6 +9,7 @@ use abc_num::limits::MOST_LINES;
 use abc_num::{ItemLines, Items, Line, OutOfMemory, Text};
 use abc_tokens::{First, Shape, shape};
 use std::alloc::Global;
+use std::marker::Model;
 use std::mem;
 
 /// What a line did.
@@ -32,8 +33,16 @@ pub struct Splitter {
     lines: Vec<Line>,
 }
 
+impl Model for Splitter {
+    ghost use Rattle.abc_layout.specs.SplitterView.{Open};
+
+    ghost Value = { Open };
+
+    ghost view = { λ s. record { unit = s.unit; lines = s.lines.items } };
+}
+
 impl Splitter {
-    ghost use Rattle.abc_layout.specs.SplitterView.{shown, Holds, Begins, GoesOn, Feeds, Finishes};
+    ghost use Rattle.abc_layout.specs.SplitterView.{Holds, Begins, GoesOn, Feeds, Finishes};
 
     /// A splitter that was fed no line.
     pub fn new(alloc: Global) -> Splitter
@@ -79,8 +88,8 @@ impl Splitter {
 
     /// The lines of the open item, which is no longer held.
     fn take_item(&mut self) -> ItemLines
-        ensures item { result ≡ self.old.lines.items }
-        ensures rest { shown self.new ≡ record { unit = false; lines = [] } }
+        ensures item { result ≡ self.old.lines }
+        ensures rest { self.new ≡ record { unit = false; lines = [] } }
     {
         self.unit = false;
         Items::from_vec(mem::replace(&mut self.lines, Vec::new(self.alloc)))
@@ -90,7 +99,7 @@ impl Splitter {
     fn begin(&mut self, line: &[u8], long: bool, shape: Shape) -> Result<Fed, OutOfMemory>
         requires { shape ≡ shape_of line.now }
         ensures ok { IfOk result (Begins (record { bytes = line.now; long = long }) self.old self.new) }
-        ensures err { OnErr result (shown self.new ≡ shown self.old) }
+        ensures err { OnErr result (self.new ≡ self.old) }
     {
         let line = line_of(self.alloc, line, long, shape)?;
         if !opens(shape) {
@@ -105,7 +114,7 @@ impl Splitter {
 
     /// Whether the open item has all the lines that it keeps.
     fn is_full(&self) -> bool
-        ensures { result ≡ nat_lt MOST_LINES (length self.now.lines.items) }
+        ensures { result ≡ nat_lt MOST_LINES (length self.now.lines) }
     {
         self.lines.len() > MOST_LINES
     }
@@ -113,8 +122,8 @@ impl Splitter {
     /// Takes a line that belongs to the open item. Beyond the lines that an item keeps it is dropped.
     fn go_on(&mut self, line: &[u8], long: bool, shape: Shape) -> Result<Fed, OutOfMemory>
         requires { shape ≡ shape_of line.now }
-        ensures ok { length self.old.lines.items ≤ most_kept → IfOk result (GoesOn (record { bytes = line.now; long = long }) self.old self.new) }
-        ensures err { OnErr result (shown self.new ≡ shown self.old) }
+        ensures ok { length self.old.lines ≤ most_kept → IfOk result (GoesOn (record { bytes = line.now; long = long }) self.old self.new) }
+        ensures err { OnErr result (self.new ≡ self.old) }
     {
         if self.is_full() {
             return Ok(Fed::More);

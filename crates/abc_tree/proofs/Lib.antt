@@ -2,4 +2,5 @@
 pub mod Rising
 pub mod Calling
 mod RegularRows
-mod RegularItemRows
+pub mod RegularItemRows
+mod RegularLimits

@@ -26,22 +26,22 @@ use Rattle.abc_tree.specs.declared.commands.RefinementKind.{RefinementKind}
 use Rattle.abc_tree.specs.declared.commands.RefinementKind.TheVariants as refines
 use Rattle.abc_tree.specs.RegularItems.{is_regular_command, is_regular_unit}
 
-abbrev name : ℕ → Expr
+abbrev pub name : ℕ → Expr
 name i = e.Name (record { 0 = i })
 
-abbrev x : Expr
+abbrev pub x : Expr
 x = name 0
 
-abbrev one : Expr
+abbrev pub one : Expr
 one = e.Number (whole_number (pos 1))
 
 abbrev bound : ℕ → Bound
 bound i = b.One (record { 0 = i })
 
-abbrev positive : Test
+abbrev pub positive : Test
 positive = t.Chain x (record { op = op.More; right = one } ∷ [])
 
-abbrev on : ℕ → ActionNode → Action
+abbrev pub on : ℕ → ActionNode → Action
 on line node = roll-Action (record { line = line; node = node })
 
 abbrev otherwise : ℕ → List Action → Alternative
@@ -255,6 +255,10 @@ a_formal_of_two_names = search (rules, the_lemmas, bounds, tests, actions)
 a_shared_name : is_regular_unit (with_shared (record { 0 = 1 } ∷ []) gives) ≡ true
 unfolding scanned.word_in_front
 a_shared_name = search (rules, the_lemmas, bounds, tests, actions)
+
+a_shared_name_past_the_last : is_regular_unit (with_shared (record { 0 = 3 } ∷ []) gives) ≡ false
+unfolding scanned.word_in_front
+a_shared_name_past_the_last = search (rules, the_lemmas, bounds, tests, actions)
 
 a_shared_formal : is_regular_unit (with_shared (record { 0 = 0 } ∷ []) gives) ≡ false
 unfolding scanned.word_in_front
