@@ -7,18 +7,18 @@ use abc_value::Value;
 use std::alloc::Global;
 
 /// The value that is this whole number.
-fn whole(n: i128) -> Result<Value, OutOfMemory> {
-    match Num::whole(n) {
-        Ok(n) => Ok(Value::number(n)),
-        Err(_) => Err(OutOfMemory),
+fn whole(n: i64) -> Value {
+    match Num::whole(i128::from(n)) {
+        Ok(n) => Value::number(n),
+        Err(_) => unreachable!(),
     }
 }
 
 /// Whether the value is this whole number.
-fn is_whole(v: Option<&Value>, n: i128) -> bool {
+fn is_whole(v: Option<&Value>, n: i64) -> bool {
     match v {
         Some(v) => match v.as_number() {
-            Some(x) => x.to_whole() == Some(n),
+            Some(x) => x.to_whole() == Some(i128::from(n)),
             None => false,
         },
         None => false,
@@ -26,10 +26,10 @@ fn is_whole(v: Option<&Value>, n: i128) -> bool {
 }
 
 /// Targets of these names and whole numbers.
-fn targets(alloc: Global, rows: &[(&str, i128)]) -> Result<Targets, OutOfMemory> {
+fn targets(alloc: Global, rows: &[(&str, i64)]) -> Result<Targets, OutOfMemory> {
     let mut all = Targets::new(alloc);
     for (name, n) in rows {
-        all.set(Text::of(alloc, name.as_bytes())?, whole(*n)?)?;
+        all.set(Text::of(alloc, name.as_bytes())?, whole(*n))?;
     }
     Ok(all)
 }
@@ -57,9 +57,9 @@ fn changes_are_in_order_of_names(rt: HostRuntime) -> Result<(), OutOfMemory> {
     let mut all = targets(alloc, &[("a", 1), ("b", 2), ("d", 4)])?;
     let before = all.keep()?;
     assert!(rt; all.changes(&before)?.is_empty());
-    all.set(Text::of(alloc, b"d")?, whole(5)?)?;
-    all.set(Text::of(alloc, b"c")?, whole(3)?)?;
-    all.set(Text::of(alloc, b"b")?, whole(2)?)?;
+    all.set(Text::of(alloc, b"d")?, whole(5))?;
+    all.set(Text::of(alloc, b"c")?, whole(3))?;
+    all.set(Text::of(alloc, b"b")?, whole(2))?;
     let _gone = all.drop_name(&Text::of(alloc, b"a")?)?;
     let changes = all.changes(&before)?;
     assert_eq!(rt; changes.len(), 3);
@@ -84,14 +84,14 @@ fn changes_are_in_order_of_names(rt: HostRuntime) -> Result<(), OutOfMemory> {
 fn the_last_frame_is_the_current_one(rt: HostRuntime) -> Result<(), OutOfMemory> {
     let mut frames = Frames::new(rt.alloc());
     frames.push()?;
-    frames.set(0, whole(1)?)?;
+    frames.set(0, whole(1))?;
     frames.push()?;
     assert!(rt; frames.look(0).is_none());
-    frames.set(0, whole(2)?)?;
-    frames.set(7, whole(3)?)?;
+    frames.set(0, whole(2))?;
+    frames.set(7, whole(3))?;
     let kept = frames.keep()?;
     assert!(rt; is_whole(frames.drop_name(7)?.as_ref(), 3) && frames.drop_name(7)?.is_none());
-    frames.set(0, whole(4)?)?;
+    frames.set(0, whole(4))?;
     frames.back(kept);
     assert!(rt; is_whole(frames.look(0), 2) && is_whole(frames.look(7), 3));
     frames.pop();

@@ -1,14 +1,18 @@
 pub mod Adding
+pub mod Appending
 pub mod Comparing
+pub mod FiniteDecimals
 pub mod Grounds
 pub mod Itemised
 pub mod Joins
 pub mod Keys
 pub mod ByKind
+pub mod LongDivision
 pub mod Making
 pub mod Pairing
 pub mod OrderLaws
 pub mod Placing
+mod PrintedRows
 pub mod Ranges
 pub mod Removing
 pub mod Rows

@@ -7,6 +7,9 @@ pub mod Items
 pub mod Laws
 pub mod Order
 pub mod Parts
+pub mod Printed
+pub mod PrintedLaws
+pub mod Printing
 pub mod Regular
 pub mod ShapeFalls
 pub mod ShapeLaws

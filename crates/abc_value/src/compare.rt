@@ -8,6 +8,7 @@ ghost use Rattle.abc_value.specs.View.{node_tree, as_pair};
 use crate::Value;
 use crate::value::{Entry, Node};
 use std::cmp::Ordering;
+use std::collections::VecDeque;
 
 impl Value {
     /// The order of the two values: numbers by size, texts by codes, compounds, lists and tables part by part; between
@@ -43,8 +44,8 @@ fn rank_of(node: &Node) -> u8
 
 /// Compares part by part; a proper front is less.
 #[cycle(compare)]
-fn cmp_all(a: &[Value], b: &[Value]) -> Ordering
-    ensures { result ≡ trees_order (trees a.now) (trees b.now) }
+fn cmp_all(a: &VecDeque<Value>, b: &VecDeque<Value>) -> Ordering
+    ensures { result ≡ trees_order (trees a.now.items) (trees b.now.items) }
 {
     for i in 0..a.len().min(b.len()) {
         match a[i].cmp(&b[i]) {

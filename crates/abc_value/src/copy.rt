@@ -4,6 +4,7 @@ ghost use Rattle.std.specs.Prelude.{◌≡◌, IfOk, IfErr};
 use crate::value::{Entry, Node};
 use crate::{Value, ValueFault};
 use std::alloc::AllocError;
+use std::collections::VecDeque;
 
 impl Value {
     /// An equal value.
@@ -39,13 +40,13 @@ impl Clone for Value {
 }
 
 #[cycle(copy)]
-fn copy_all(parts: &Vec<Value>) -> Result<Vec<Value>, ValueFault>
+fn copy_all(parts: &VecDeque<Value>) -> Result<VecDeque<Value>, ValueFault>
     ensures ok { IfOk result (λ v. v.items ≡ parts.now.items) }
     ensures err { IfErr result (λ f. f ≡ ValueFault.Memory) }
 {
-    let mut all = Vec::new(*parts.allocator());
-    for part in parts {
-        all.push(part.copy()?)?;
+    let mut all = VecDeque::new(*parts.allocator());
+    for i in 0..parts.len() {
+        all.push_back(parts[i].copy()?)?;
     }
     Ok(all)
 }

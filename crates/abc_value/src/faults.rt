@@ -44,6 +44,37 @@ impl<T: Drop> From<AllocFailed<T>> for ValueFault {
     }
 }
 
+/// Why a value has no printed form here.
+#[derive(Clone, Copy, PartialEq, Eq, Debug)]
+pub enum PrintFault {
+    /// The text would be longer than was allowed.
+    TooLong,
+    /// There was not enough memory.
+    Memory,
+}
+
+impl From<AllocError> for PrintFault {
+    ghost use Rattle.std.specs.Prelude.{◌≡◌};
+    ghost use Rattle.abc_value.specs.declared.faults.PrintFault.TheVariants.{Memory};
+
+    ghost from_gives = { λ _ f. f ≡ Memory };
+
+    fn from(_refused: AllocError) -> PrintFault {
+        PrintFault::Memory
+    }
+}
+
+impl<T: Drop> From<AllocFailed<T>> for PrintFault {
+    ghost use Rattle.std.specs.Prelude.{◌≡◌};
+    ghost use Rattle.abc_value.specs.declared.faults.PrintFault.TheVariants.{Memory};
+
+    ghost from_gives = { λ _ f. f ≡ Memory };
+
+    fn from(_refused: AllocFailed<T>) -> PrintFault {
+        PrintFault::Memory
+    }
+}
+
 /// Why a run stopped. The commands, expressions and tests that meet it change nothing.
 #[derive(Clone, Copy, PartialEq, Eq, Debug)]
 pub enum RunFault {

@@ -9,6 +9,7 @@ use crate::value::{Entry, Node};
 use crate::{Shape, Value};
 use abc_num::OutOfMemory;
 use std::alloc::Global;
+use std::collections::VecDeque;
 
 impl Shape {
     /// The shape of the types that a value has. None where it has none, as a list of a number and a text.
@@ -43,12 +44,12 @@ impl Shape {
 
 /// The shapes of these values, where each has one.
 #[cycle(form)]
-fn shapes_of(alloc: Global, parts: &[Value]) -> Result<Option<Vec<Shape>>, OutOfMemory>
-    ensures { IfOk result (λ o. option_map (λ v. forms v.items) o ≡ forms_of (trees parts.now)) }
+fn shapes_of(alloc: Global, parts: &VecDeque<Value>) -> Result<Option<Vec<Shape>>, OutOfMemory>
+    ensures { IfOk result (λ o. option_map (λ v. forms v.items) o ≡ forms_of (trees parts.now.items)) }
 {
     let mut shapes = Vec::new(alloc);
-    for part in parts {
-        let Some(shape) = Shape::of(alloc, part)? else {
+    for i in 0..parts.len() {
+        let Some(shape) = Shape::of(alloc, &parts[i])? else {
             return Ok(None);
         };
         shapes.push(shape)?;
@@ -58,12 +59,12 @@ fn shapes_of(alloc: Global, parts: &[Value]) -> Result<Option<Vec<Shape>>, OutOf
 
 /// The shape of the types that all these values have.
 #[cycle(form)]
-fn common_shape(alloc: Global, parts: &[Value]) -> Result<Option<Shape>, OutOfMemory>
-    ensures { IfOk result (λ o. o ≡ common (Some anything) (trees parts.now)) }
+fn common_shape(alloc: Global, parts: &VecDeque<Value>) -> Result<Option<Shape>, OutOfMemory>
+    ensures { IfOk result (λ o. o ≡ common (Some anything) (trees parts.now.items)) }
 {
     let mut all = Shape::anything();
-    for part in parts {
-        let Some(shape) = Shape::of(alloc, part)? else {
+    for i in 0..parts.len() {
+        let Some(shape) = Shape::of(alloc, &parts[i])? else {
             return Ok(None);
         };
         let Some(next) = all.join(alloc, &shape)? else {

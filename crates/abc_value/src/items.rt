@@ -12,6 +12,7 @@ use crate::{Value, ValueFault};
 use abc_num::Num;
 use abc_num::limits::{MOST_ELEMENTS, MOST_VALUE_HEIGHT};
 use std::alloc::Global;
+use std::collections::VecDeque;
 
 impl Value {
     /// The i-th element of a text, list or table, in order and counted from 1. NotWhole where `i` isn't whole; OutOfRange
@@ -124,11 +125,12 @@ fn ordered_list(items: Vec<Value>) -> Result<Value, ValueFault>
     if items.len() > MOST_ELEMENTS {
         return Err(ValueFault::TooLong);
     }
-    let weight = total_weight(&items) + 5;
-    let height = tallest(&items, MOST_VALUE_HEIGHT + 1);
-    check_sizes(items.len(), height, weight)?;
+    let elements = VecDeque::from_vec(items);
+    let weight = total_weight(&elements) + 5;
+    let height = tallest(&elements, MOST_VALUE_HEIGHT + 1);
+    check_sizes(elements.len(), height, weight)?;
     Ok(Value {
-        node: Node::List(items),
+        node: Node::List(elements),
         height,
         weight,
     })

@@ -1,5 +1,6 @@
 //! Laws of values, for the crates above.
 ghost use Rattle.abc_value.specs.Laws.{OrderIsReflexive, OrderIsTotal, OrderIsAntisymmetric, OrderIsTransitive};
+ghost use Rattle.abc_value.specs.PrintedLaws.{DecimalsAreExact, DecimalsAreFewest, QuotientsHaveNoDecimals};
 ghost use Rattle.abc_value.specs.ShapeLaws.{FormIsExact, JoinIsExact, FormsHaveTypes, CommonIsExact, ElementsAreExact};
 
 /// The order of values is total, and two values that are equal in it are one value.
@@ -19,4 +20,11 @@ pub fn shapes_of_values()
     ensures types { FormsHaveTypes }
     ensures common { CommonIsExact }
     ensures elements { ElementsAreExact }
+{}
+
+/// A number is printed with the fewest decimals that spell it exactly, and as a quotient only where none do.
+pub fn printed_numbers()
+    ensures exact { DecimalsAreExact }
+    ensures fewest { DecimalsAreFewest }
+    ensures quotients { QuotientsHaveNoDecimals }
 {}

@@ -9,12 +9,15 @@ mod items;
 mod joining;
 pub mod laws;
 mod list;
+mod numeral;
 mod parts;
+mod printing;
 mod shape;
 mod sizes;
 mod table;
 mod value;
 
-pub use faults::{RunFault, ValueFault};
+pub use faults::{PrintFault, RunFault, ValueFault};
+pub use printing::{display_of, text_of};
 pub use shape::Shape;
 pub use value::{Kind, Value};

@@ -12,6 +12,7 @@ use crate::{Kind, Value, ValueFault};
 use abc_num::Num;
 use abc_num::limits::{MOST_ELEMENTS, MOST_VALUE_HEIGHT};
 use std::alloc::Global;
+use std::collections::VecDeque;
 
 impl Value {
     /// The text of these characters. TooLong where there are too many.
@@ -40,11 +41,12 @@ impl Value {
         if fields.len() > MOST_ELEMENTS {
             return Err(ValueFault::TooLong);
         }
-        let weight = total_weight(&fields) + 5;
-        let height = tallest(&fields, MOST_VALUE_HEIGHT + 1);
-        check_sizes(fields.len(), height, weight)?;
+        let parts = VecDeque::from_vec(fields);
+        let weight = total_weight(&parts) + 5;
+        let height = tallest(&parts, MOST_VALUE_HEIGHT + 1);
+        check_sizes(parts.len(), height, weight)?;
         Ok(Value {
-            node: Node::Compound(fields),
+            node: Node::Compound(parts),
             height,
             weight,
         })
@@ -121,8 +123,8 @@ impl Value {
     }
 }
 
-fn nth(parts: &[Value], i: usize) -> Option<&Value>
-    ensures { option_map (λ v. v.now) result ≡ slice_get parts.now i }
+fn nth(parts: &VecDeque<Value>, i: usize) -> Option<&Value>
+    ensures { option_map (λ v. v.now) result ≡ slice_get parts.now.items i }
 {
     if i < parts.len() {
         Some(&parts[i])

@@ -8,6 +8,7 @@ ghost use Rattle.abc_value.specs.Regular.{AllRegular};
 use crate::value::Entry;
 use crate::{Value, ValueFault};
 use abc_num::limits::{MOST_ELEMENTS, MOST_VALUE_HEIGHT, MOST_WEIGHT};
+use std::collections::VecDeque;
 
 /// Tests sizes against their bounds.
 #[tactic(auto, unfolding(crate::specs::Sizes::sizes_fault))]
@@ -28,13 +29,13 @@ pub(crate) fn check_sizes(length: usize, height: u32, weight: u64) -> Result<(),
 }
 
 /// The height of a value of these parts, which is at most `most`.
-pub(crate) fn tallest(parts: &[Value], most: u32) -> u32
-    requires { trees_height (trees parts.now) ≤ most }
-    ensures { result ≡ trees_height (trees parts.now) }
+pub(crate) fn tallest(parts: &VecDeque<Value>, most: u32) -> u32
+    requires { trees_height (trees parts.now.items) ≤ most }
+    ensures { result ≡ trees_height (trees parts.now.items) }
 {
     let mut height: u32 = 0;
-    for part in parts {
-        height = height.max(part.height() + 1);
+    for i in 0..parts.len() {
+        height = height.max(parts[i].height() + 1);
         if height == most {
             return height;
         }
@@ -58,15 +59,15 @@ pub(crate) fn tallest_entry(entries: &[Entry], most: u32) -> u32
 }
 
 /// The sum of the weights of these parts.
-pub(crate) fn total_weight(parts: &[Value]) -> u64
-    requires { length parts.now ≤ MOST_ELEMENTS }
-    ensures weight { result ≡ trees_weight (trees parts.now) }
-    ensures bound { result ≤ length parts.now * MOST_WEIGHT }
-    ensures regular { AllRegular (trees parts.now) }
+pub(crate) fn total_weight(parts: &VecDeque<Value>) -> u64
+    requires { length parts.now.items ≤ MOST_ELEMENTS }
+    ensures weight { result ≡ trees_weight (trees parts.now.items) }
+    ensures bound { result ≤ length parts.now.items * MOST_WEIGHT }
+    ensures regular { AllRegular (trees parts.now.items) }
 {
     let mut weight: u64 = 0;
-    for part in parts {
-        weight += part.weight();
+    for i in 0..parts.len() {
+        weight += parts[i].weight();
     }
     weight
 }

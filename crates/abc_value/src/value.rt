@@ -10,6 +10,7 @@ use crate::ValueFault;
 use abc_num::Num;
 use abc_num::limits::{MOST_ELEMENTS, MOST_VALUE_HEIGHT, MOST_WEIGHT};
 use std::alloc::Global;
+use std::collections::VecDeque;
 use std::marker::Model;
 
 /// What kind of value a value is.
@@ -41,8 +42,8 @@ pub struct Value {
 pub(crate) enum Node {
     Number(Num),
     Text(Vec<u8>),
-    Compound(Vec<Value>),
-    List(Vec<Value>),
+    Compound(VecDeque<Value>),
+    List(VecDeque<Value>),
     Table(Vec<Entry>),
 }
 
@@ -98,7 +99,7 @@ impl Value {
         ensures { result ≡ empty }
     {
         Value {
-            node: Node::List(Vec::new(alloc)),
+            node: Node::List(VecDeque::new(alloc)),
             height: 0,
             weight: 5,
         }

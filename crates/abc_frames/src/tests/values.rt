@@ -7,6 +7,7 @@ mod calls;
 mod shapes;
 mod speed;
 
+use super::{is_whole, whole};
 use abc_num::Num;
 use abc_value::*;
 use std::alloc::Global;
@@ -19,10 +20,6 @@ fn ratio(p: i128, q: i128) -> Result<Value, ValueFault> {
     }
 }
 
-fn whole(n: i128) -> Result<Value, ValueFault> {
-    ratio(n, 1)
-}
-
 fn pair(alloc: Global, first: Value, second: Value) -> Result<Value, ValueFault> {
     let mut fields = Vec::new(alloc);
     fields.push(first)?;
@@ -31,34 +28,23 @@ fn pair(alloc: Global, first: Value, second: Value) -> Result<Value, ValueFault>
 }
 
 /// The list of these whole numbers.
-fn list(alloc: Global, elements: &[i128]) -> Result<Value, ValueFault>
+fn list(alloc: Global, elements: &[i64]) -> Result<Value, ValueFault>
     ensures { IfOk result IsList }
 {
     let mut all = Value::empty(alloc);
     for n in elements {
-        all.insert(whole(*n)?)?;
+        all.insert(whole(*n))?;
     }
     Ok(all)
 }
 
 /// The table of these keys and associates.
-fn table(alloc: Global, pairs: &[(i128, i128)]) -> Result<Value, ValueFault>
+fn table(alloc: Global, pairs: &[(i64, i64)]) -> Result<Value, ValueFault>
     ensures { IfOk result IsTable }
 {
     let mut all = Value::empty(alloc);
     for (k, a) in pairs {
-        all.put(whole(*k)?, whole(*a)?)?;
+        all.put(whole(*k), whole(*a))?;
     }
     Ok(all)
-}
-
-/// Whether the value is this whole number.
-fn is_whole(v: Option<&Value>, n: i128) -> bool {
-    match v {
-        Some(v) => match v.as_number() {
-            Some(x) => x.to_whole() == Some(n),
-            None => false,
-        },
-        None => false,
-    }
 }

@@ -9,10 +9,10 @@ abbrev pub decreases-value::Value::cmp : goal.decreases-value::Value::cmp
 decreases-value::Value::cmp l = 2 * height_of l.self.now + 1
 
 abbrev pub decreases-compare::cmp_all : goal.decreases-compare::cmp_all
-decreases-compare::cmp_all l = 2 * trees_height (trees l.a.now)
+decreases-compare::cmp_all l = 2 * trees_height (trees l.a.now.items)
 
 abbrev pub invariant-compare::cmp_all-loop-i : goal.invariant-compare::cmp_all-loop-i
-invariant-compare::cmp_all-loop-i l = trees_order (trees l.a) (trees l.b) ≡ trees_order (trees (drop l.i l.a)) (trees (drop l.i l.b))
+invariant-compare::cmp_all-loop-i l = trees_order (trees l.a.items) (trees l.b.items) ≡ trees_order (trees (drop l.i l.a.items)) (trees (drop l.i l.b.items))
 
 abbrev pub decreases-compare::cmp_entries : goal.decreases-compare::cmp_entries
 decreases-compare::cmp_entries l = 2 * pairs_height (pairs (map as_pair l.a.now))

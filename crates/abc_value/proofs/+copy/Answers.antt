@@ -6,8 +6,7 @@ use Rattle.abc_value.proofs.+copy.Goals as goal
 
 pub copy::copy_all-copy-requires : goal.copy::copy_all-copy-requires
 copy::copy_all-copy-requires t c =
-    let is = c.part-item.is ∙ ap (λ xs. get_or xs c.loop-part.part-index c.part-item.result) c.deref-part-items.ensures.value in
-    let below = part_below c.args.parts.now.items c.loop-part.part-index c.part-item.result (omega (arith, ap length c.deref-part-items.ensures.value)) is in
+    let below = part_below c.args.parts.now.items c.loop-i.i c.index.result.now (omega arith) c.index.ensures in
     (omega arith, tt)
 
 pub copy::copy_entries-copy-requires : goal.copy::copy_entries-copy-requires

@@ -10,8 +10,8 @@ decreases-value::Value::copy l = 2 * height_of l.self.now + 1
 abbrev pub decreases-copy::copy_all : goal.decreases-copy::copy_all
 decreases-copy::copy_all l = 2 * trees_height (trees l.parts.now.items)
 
-abbrev pub invariant-copy::copy_all-loop-part : goal.invariant-copy::copy_all-loop-part
-invariant-copy::copy_all-loop-part l = l.all.items ≡ take l.part-index l.parts.items
+abbrev pub invariant-copy::copy_all-loop-i : goal.invariant-copy::copy_all-loop-i
+invariant-copy::copy_all-loop-i l = l.all.items ≡ take l.i l.parts.items
 
 abbrev pub decreases-copy::copy_entries : goal.decreases-copy::copy_entries
 decreases-copy::copy_entries l = 2 * pairs_height (pairs (map as_pair l.entries.now.items))

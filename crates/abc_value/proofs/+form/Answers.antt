@@ -13,12 +13,12 @@ use Rattle.abc_value.proofs.+form.Goals as goal
 
 pub forming::shapes_of-of-requires : goal.forming::shapes_of-of-requires
 forming::shapes_of-of-requires t c =
-    let below = part_below c.args.parts.now c.loop-part.part-index c.part-item.result (omega arith) c.part-item.is in
+    let below = part_below c.args.parts.now.items c.loop-i.i c.index.result.now (omega arith) c.index.ensures in
     (omega arith, tt)
 
 pub forming::common_shape-of-requires : goal.forming::common_shape-of-requires
 forming::common_shape-of-requires t c =
-    let below = part_below c.args.parts.now c.loop-part.part-index c.part-item.result (omega arith) c.part-item.is in
+    let below = part_below c.args.parts.now.items c.loop-i.i c.index.result.now (omega arith) c.index.ensures in
     (omega arith, tt)
 
 pub forming::key_shape-of-requires : goal.forming::key_shape-of-requires
@@ -33,26 +33,26 @@ forming::associate_shape-of-requires t c =
 
 pub forming::shapes_of-returns-in_default : goal.forming::shapes_of-returns-in_default
 forming::shapes_of-returns-in_default t c =
-    forms_stop (forms_of (trees c.args.parts.now)) c.args.parts.now c.loop-part.shapes.items c.loop-part.part-index c.part-item.result c.loop-part.invariant (omega arith) c.part-item.is
+    forms_stop (forms_of (trees c.args.parts.now.items)) c.args.parts.now.items c.loop-i.shapes.items c.loop-i.i c.index.result.now c.loop-i.invariant (omega arith) c.index.ensures
     (sym c.in_default.is ∙ c.in_ok-shape.ensures)
 
-pub forming::shapes_of-loop-part-preserved : goal.forming::shapes_of-loop-part-preserved
-forming::shapes_of-loop-part-preserved t c =
-    rw c.in_ok-push.ensures.items (forms_turn (forms_of (trees c.args.parts.now)) c.args.parts.now c.loop-part.shapes.items c.loop-part.part-index c.part-item.result c.in-Some.shape c.loop-part.invariant (omega arith) c.part-item.is
+pub forming::shapes_of-loop-i-preserved : goal.forming::shapes_of-loop-i-preserved
+forming::shapes_of-loop-i-preserved t c =
+    rw c.in_ok-push.ensures.items (forms_turn (forms_of (trees c.args.parts.now.items)) c.args.parts.now.items c.loop-i.shapes.items c.loop-i.i c.index.result.now c.in-Some.shape c.loop-i.invariant (omega arith) c.index.ensures
     (sym c.in-Some.is ∙ c.in_ok-shape.ensures))
 
 pub forming::shapes_of-returns : goal.forming::shapes_of-returns
-forming::shapes_of-returns t c = forms_done (forms_of (trees c.args.parts.now)) c.args.parts.now c.loop-part.shapes.items c.loop-part.part-index c.loop-part.invariant (omega arith)
+forming::shapes_of-returns t c = forms_done (forms_of (trees c.args.parts.now.items)) c.args.parts.now.items c.loop-i.shapes.items c.loop-i.i c.loop-i.invariant (omega arith)
 
 pub forming::common_shape-returns-in_default : goal.forming::common_shape-returns-in_default
 forming::common_shape-returns-in_default t c =
-    common_stop (common (Some anything) (trees c.args.parts.now)) c.args.parts.now c.loop-part.all c.loop-part.part-index c.part-item.result c.loop-part.invariant (omega arith) c.part-item.is
-    (unformed c.loop-part.all c.part-item.result (sym c.in_default.is ∙ c.in_ok-shape.ensures))
+    common_stop (common (Some anything) (trees c.args.parts.now.items)) c.args.parts.now.items c.loop-i.all c.loop-i.i c.index.result.now c.loop-i.invariant (omega arith) c.index.ensures
+    (unformed c.loop-i.all c.index.result.now (sym c.in_default.is ∙ c.in_ok-shape.ensures))
 
 pub forming::common_shape-returns-in_default-2 : goal.forming::common_shape-returns-in_default-2
 forming::common_shape-returns-in_default-2 t c =
-    common_stop (common (Some anything) (trees c.args.parts.now)) c.args.parts.now c.loop-part.all c.loop-part.part-index c.part-item.result c.loop-part.invariant (omega arith) c.part-item.is
-    (unjoined c.loop-part.all c.in-Some.shape c.part-item.result (sym c.in-Some.is ∙ c.in_ok-shape.ensures) (sym c.in_default-2.is ∙ c.in_ok-next.ensures))
+    common_stop (common (Some anything) (trees c.args.parts.now.items)) c.args.parts.now.items c.loop-i.all c.loop-i.i c.index.result.now c.loop-i.invariant (omega arith) c.index.ensures
+    (unjoined c.loop-i.all c.in-Some.shape c.index.result.now (sym c.in-Some.is ∙ c.in_ok-shape.ensures) (sym c.in_default-2.is ∙ c.in_ok-next.ensures))
 
 pub forming::key_shape-returns-in_default : goal.forming::key_shape-returns-in_default
 forming::key_shape-returns-in_default t c =
@@ -79,7 +79,7 @@ shape::Shape::of-returns-in_ok-list-in-Some-2 t c =
     let xs = c.in-List-2.elements.items in
     let same = ap (λ n. length_of (node_tree n)) (sym c.in-List.is ∙ c.in-List-2.is) in
     let some : length c.in-List.elements.items ≡ 0 → ⊥ = (λ h. let e = c.is_empty.ensures in grind (arith, nat_tests)) in
-    let found : Some c.in-Some-2.shape ≡ common (Some anything) (trees xs) = sym c.in-Some-2.is ∙ c.in_ok-shape-in-List-2.ensures ∙ ap (λ ys. common (Some anything) (trees ys)) c.deref-in-List-2.ensures.value in
+    let found : Some c.in-Some-2.shape ≡ common (Some anything) (trees xs) = sym c.in-Some-2.is ∙ c.in_ok-shape-in-List-2.ensures in
     ap Some c.in_ok-list-in-Some-2.ensures ∙ ap (option_map a_list) found
     ∙ list_form xs (λ h. some (omega (arith, same, h, count_trees xs, count_trees c.in-List.elements.items)))
     ∙ ap (λ n. form_of (node_tree n)) (sym c.in-List-2.is) ∙ ap form_of c.v.view_is
@@ -89,7 +89,7 @@ shape::Shape::of-returns-in-None-2 t c =
     let xs = c.in-List-2.elements.items in
     let same = ap (λ n. length_of (node_tree n)) (sym c.in-List.is ∙ c.in-List-2.is) in
     let some : length c.in-List.elements.items ≡ 0 → ⊥ = (λ h. let e = c.is_empty.ensures in grind (arith, nat_tests)) in
-    let found : None ≡ common (Some anything) (trees xs) = sym c.in-None-2.is ∙ c.in_ok-shape-in-List-2.ensures ∙ ap (λ ys. common (Some anything) (trees ys)) c.deref-in-List-2.ensures.value in
+    let found : None ≡ common (Some anything) (trees xs) = sym c.in-None-2.is ∙ c.in_ok-shape-in-List-2.ensures in
     ap (option_map a_list) found
     ∙ list_form xs (λ h. some (omega (arith, same, h, count_trees xs, count_trees c.in-List.elements.items)))
     ∙ ap (λ n. form_of (node_tree n)) (sym c.in-List-2.is) ∙ ap form_of c.v.view_is

@@ -10,10 +10,10 @@ abbrev pub decreases-shape::Shape::of : goal.decreases-shape::Shape::of
 decreases-shape::Shape::of l = 2 * height_of l.v.now + 1
 
 abbrev pub decreases-forming::shapes_of : goal.decreases-forming::shapes_of
-decreases-forming::shapes_of l = 2 * trees_height (trees l.parts.now)
+decreases-forming::shapes_of l = 2 * trees_height (trees l.parts.now.items)
 
 abbrev pub decreases-forming::common_shape : goal.decreases-forming::common_shape
-decreases-forming::common_shape l = 2 * trees_height (trees l.parts.now)
+decreases-forming::common_shape l = 2 * trees_height (trees l.parts.now.items)
 
 abbrev pub decreases-forming::key_shape : goal.decreases-forming::key_shape
 decreases-forming::key_shape l = 2 * pairs_height (pairs (map as_pair l.entries.now))
@@ -21,11 +21,11 @@ decreases-forming::key_shape l = 2 * pairs_height (pairs (map as_pair l.entries.
 abbrev pub decreases-forming::associate_shape : goal.decreases-forming::associate_shape
 decreases-forming::associate_shape l = 2 * pairs_height (pairs (map as_pair l.entries.now))
 
-abbrev pub invariant-forming::shapes_of-loop-part : goal.invariant-forming::shapes_of-loop-part
-invariant-forming::shapes_of-loop-part l = forms_of (trees l.parts) ≡ in_front l.shapes.items (forms_of (trees (drop l.part-index l.parts)))
+abbrev pub invariant-forming::shapes_of-loop-i : goal.invariant-forming::shapes_of-loop-i
+invariant-forming::shapes_of-loop-i l = forms_of (trees l.parts.items) ≡ in_front l.shapes.items (forms_of (trees (drop l.i l.parts.items)))
 
-abbrev pub invariant-forming::common_shape-loop-part : goal.invariant-forming::common_shape-loop-part
-invariant-forming::common_shape-loop-part l = common (Some anything) (trees l.parts) ≡ common (Some l.all) (trees (drop l.part-index l.parts))
+abbrev pub invariant-forming::common_shape-loop-i : goal.invariant-forming::common_shape-loop-i
+invariant-forming::common_shape-loop-i l = common (Some anything) (trees l.parts.items) ≡ common (Some l.all) (trees (drop l.i l.parts.items))
 
 abbrev pub invariant-forming::key_shape-loop-entry : goal.invariant-forming::key_shape-loop-entry
 invariant-forming::key_shape-loop-entry l = common_key (Some anything) (pairs (map as_pair l.entries)) ≡ common_key (Some l.all) (pairs (map as_pair (drop l.entry-index l.entries)))

@@ -12,7 +12,7 @@ type Row = (Value, Kind, usize, u32, u64);
 
 fn flat_rows(alloc: Global) -> Result<Vec<Row>, ValueFault> {
     let mut rows = Vec::new(alloc);
-    rows.push((whole(41)?, Kind::Number, 0, 0, 17))?;
+    rows.push((whole(41), Kind::Number, 0, 0, 17))?;
     rows.push((ratio(1, 3)?, Kind::Number, 0, 0, 17))?;
     rows.push((Value::text(alloc, b"ab")?, Kind::Text, 2, 0, 7))?;
     rows.push((Value::empty(alloc), Kind::Empty, 0, 0, 5))?;
@@ -27,7 +27,7 @@ fn high_rows(alloc: Global) -> Result<Vec<Row>, ValueFault> {
     rows.push((list(alloc, &[7, 5, 7])?, Kind::List, 3, 1, 56))?;
     rows.push((table(alloc, &[(2, 3)])?, Kind::Table, 1, 1, 39))?;
     rows.push((
-        pair(alloc, whole(1)?, list(alloc, &[2])?)?,
+        pair(alloc, whole(1), list(alloc, &[2])?)?,
         Kind::Compound,
         2,
         2,
@@ -62,8 +62,8 @@ fn ladder(alloc: Global) -> Result<Vec<Value>, ValueFault> {
     steps.push(Value::text(alloc, b"")?)?;
     steps.push(Value::text(alloc, b"ab")?)?;
     steps.push(Value::text(alloc, b"b")?)?;
-    steps.push(pair(alloc, whole(1)?, whole(9)?)?)?;
-    steps.push(pair(alloc, whole(2)?, whole(0)?)?)?;
+    steps.push(pair(alloc, whole(1), whole(9))?)?;
+    steps.push(pair(alloc, whole(2), whole(0))?)?;
     for elements in [[].as_slice(), &[1], &[1, 1], &[2]] {
         steps.push(list(alloc, elements)?)?;
     }
@@ -92,7 +92,7 @@ fn lists_keep_equal_elements(rt: HostRuntime) -> Result<(), ValueFault> {
         is_whole(numbers.part(0), 5) && is_whole(numbers.part(1), 7) && is_whole(numbers.part(2), 7)
     );
     assert!(rt; numbers.part(3).is_none() && numbers.key(0).is_none() && numbers.byte(0).is_none());
-    numbers.remove(&whole(7)?)?;
+    numbers.remove(&whole(7))?;
     assert!(rt; numbers.len() == 2 && is_whole(numbers.part(1), 7));
     Ok(())
 }
@@ -100,10 +100,10 @@ fn lists_keep_equal_elements(rt: HostRuntime) -> Result<(), ValueFault> {
 #[test]
 fn a_list_loses_its_elements(rt: HostRuntime) -> Result<(), ValueFault> {
     let mut numbers = list(rt.alloc(), &[1])?;
-    assert_eq!(rt; numbers.remove(&whole(6)?), Err(ValueFault::NoElement));
-    numbers.remove(&whole(1)?)?;
+    assert_eq!(rt; numbers.remove(&whole(6)), Err(ValueFault::NoElement));
+    numbers.remove(&whole(1))?;
     assert!(rt; numbers.kind() == Kind::Empty && numbers.height() == 0 && numbers.weight() == 5);
-    assert_eq!(rt; numbers.remove(&whole(1)?), Err(ValueFault::NoElement));
+    assert_eq!(rt; numbers.remove(&whole(1)), Err(ValueFault::NoElement));
     Ok(())
 }
 
@@ -124,8 +124,8 @@ fn two_letters(alloc: Global) -> Result<Value, ValueFault>
     ensures { IfOk result IsTable }
 {
     let mut letters = Value::empty(alloc);
-    letters.put(Value::text(alloc, b"b")?, whole(2)?)?;
-    letters.put(Value::text(alloc, b"a")?, whole(1)?)?;
+    letters.put(Value::text(alloc, b"b")?, whole(2))?;
+    letters.put(Value::text(alloc, b"a")?, whole(1))?;
     Ok(letters)
 }
 
@@ -138,7 +138,7 @@ fn pairs_are_replaced_at_their_key(rt: HostRuntime) -> Result<(), ValueFault> {
     assert!(rt;
         letters.len() == 2 && letters.height() == 2 && letters.weight() == 5 + 6 + 17 + 6 + 22
     );
-    letters.put(key.copy()?, whole(4)?)?;
+    letters.put(key.copy()?, whole(4))?;
     assert!(rt;
         letters.len() == 2 && letters.height() == 1 && letters.weight() == 5 + 6 + 17 + 6 + 17
     );
@@ -165,7 +165,7 @@ fn the_last_pair_leaves_the_empty_value(rt: HostRuntime) -> Result<(), ValueFaul
     let mut none = Value::empty(alloc);
     assert_eq!(rt; none.delete(&key), Err(ValueFault::NoKey));
     let mut letters = Value::empty(alloc);
-    letters.put(key.copy()?, whole(1)?)?;
+    letters.put(key.copy()?, whole(1))?;
     letters.delete(&key)?;
     assert_eq!(rt; letters.kind(), Kind::Empty);
     Ok(())
@@ -174,7 +174,7 @@ fn the_last_pair_leaves_the_empty_value(rt: HostRuntime) -> Result<(), ValueFaul
 #[test]
 fn a_pair_is_taken_out(rt: HostRuntime) -> Result<(), ValueFault> {
     let mut numbers = table(rt.alloc(), &[(1, 10), (3, 30), (2, 20)])?;
-    numbers.delete(&whole(1)?)?;
+    numbers.delete(&whole(1))?;
     assert!(rt;
         numbers.len() == 2 && numbers.weight() == 5 + 4 * 17 && is_whole(numbers.part(0), 20)
     );
@@ -197,8 +197,8 @@ fn items_are_counted_from_one(rt: HostRuntime) -> Result<(), ValueFault> {
     let letters = Value::text(alloc, b"abc")?;
     assert_eq!(rt; item(&letters, 1)?.byte(0), Some(b'a'));
     let mut numbers = Value::empty(alloc);
-    numbers.insert(whole(7)?)?;
-    numbers.insert(whole(5)?)?;
+    numbers.insert(whole(7))?;
+    numbers.insert(whole(5))?;
     assert!(rt; is_whole(Some(&item(&numbers, 1)?), 5));
     for place in [0, 3, -1] {
         assert!(rt; matches!(item(&numbers, place), Err(ValueFault::OutOfRange)));

@@ -19,16 +19,16 @@ fn groups(alloc: Global) -> Result<Vec<(u8, Value)>, ValueFault> {
     let mut letters = Value::empty(alloc);
     letters.insert(letter.copy()?)?;
     let mut all = Vec::new(alloc);
-    all.push((0, whole(1)?))?;
+    all.push((0, whole(1)))?;
     all.push((0, ratio(1, 2)?))?;
     all.push((1, Value::text(alloc, b"b")?))?;
     all.push((2, list(alloc, &[1, 2])?))?;
     all.push((3, letters))?;
     all.push((4, table(alloc, &[(1, 2)])?))?;
     all.push((4, table(alloc, &[(3, 4), (5, 6)])?))?;
-    all.push((5, pair(alloc, whole(1)?, list(alloc, &[2])?)?))?;
-    all.push((5, pair(alloc, whole(3)?, Value::empty(alloc))?))?;
-    all.push((6, pair(alloc, whole(3)?, letter)?))?;
+    all.push((5, pair(alloc, whole(1), list(alloc, &[2])?)?))?;
+    all.push((5, pair(alloc, whole(3), Value::empty(alloc))?))?;
+    all.push((6, pair(alloc, whole(3), letter)?))?;
     Ok(all)
 }
 

@@ -6,11 +6,11 @@ use super::*;
 fn a_long_list_is_quick(rt: HostRuntime) -> Result<(), ValueFault> {
     let mut numbers = Value::empty(rt.alloc());
     for k in 0..100_000u32 {
-        numbers.insert(whole(i128::from(k))?)?;
+        numbers.insert(whole(i64::from(k)))?;
     }
     assert_eq!(rt; numbers.len(), 100_000);
     for k in 0..100_000usize {
-        assert!(rt; is_whole(numbers.part(k), k as i128));
+        assert!(rt; is_whole(numbers.part(k), k as i64));
     }
     Ok(())
 }
@@ -19,12 +19,12 @@ fn a_long_list_is_quick(rt: HostRuntime) -> Result<(), ValueFault> {
 #[test]
 fn a_list_from_behind_is_quick(rt: HostRuntime) -> Result<(), ValueFault> {
     let mut numbers = Value::empty(rt.alloc());
-    for k in 0..10_000u32 {
-        numbers.insert(whole(10_000 - i128::from(k))?)?;
+    for k in 0..100_000u32 {
+        numbers.insert(whole(100_000 - i64::from(k)))?;
     }
-    assert_eq!(rt; numbers.len(), 10_000);
-    for k in 0..10_000usize {
-        assert!(rt; is_whole(numbers.part(k), k as i128 + 1));
+    assert_eq!(rt; numbers.len(), 100_000);
+    for k in 0..100_000usize {
+        assert!(rt; is_whole(numbers.part(k), k as i64 + 1));
     }
     Ok(())
 }

@@ -2,20 +2,20 @@ use Rattle.std.proofs.Common.{◌+◌, ap, ◌∙◌, arith, refl}
 use Rattle.abc_value.proofs.Making.{regular_sizes, heavier, one_regular_more, none_regular, regular_at_end}
 use Rattle.abc_value.proofs.sizes.total_weight.Goals as goal
 
-pub loop-part-init : goal.loop-part-init
-loop-part-init c = record { sum = refl; fits = omega arith; regular = none_regular }
+pub loop-i-init : goal.loop-i-init
+loop-i-init c = record { sum = refl; fits = omega arith; regular = none_regular }
 
 pub overflow_add-weight : goal.overflow_add-weight
-overflow_add-weight c = let s = regular_sizes c.part-item.result c.weight-weight.ensures.regular in omega (arith, s.1, c.weight-weight.ensures.weight, c.loop-part.invariant.fits)
+overflow_add-weight c = let s = regular_sizes c.index.result.now c.weight-weight.ensures.regular in omega (arith, s.1, c.weight-weight.ensures.weight, c.loop-i.invariant.fits)
 
-pub loop-part-preserved : goal.loop-part-preserved
-loop-part-preserved c =
-    let s = regular_sizes c.part-item.result c.weight-weight.ensures.regular in
+pub loop-i-preserved : goal.loop-i-preserved
+loop-i-preserved c =
+    let s = regular_sizes c.index.result.now c.weight-weight.ensures.regular in
     record {
-      sum = ap (λ w. c.loop-part.weight + w) c.weight-weight.ensures.weight ∙ heavier c.args.parts.now c.loop-part.part-index c.loop-part.weight c.part-item.result (omega arith) c.part-item.is c.loop-part.invariant.sum;
-      fits = omega (arith, s.1, c.weight-weight.ensures.weight, c.loop-part.invariant.fits);
-      regular = one_regular_more c.args.parts.now c.loop-part.part-index c.part-item.result (omega arith) c.part-item.is c.weight-weight.ensures.regular c.loop-part.invariant.regular;
+      sum = ap (λ w. c.loop-i.weight + w) c.weight-weight.ensures.weight ∙ heavier c.args.parts.now.items c.loop-i.i c.loop-i.weight c.index.result.now (omega arith) c.index.ensures c.loop-i.invariant.sum;
+      fits = omega (arith, s.1, c.weight-weight.ensures.weight, c.loop-i.invariant.fits);
+      regular = one_regular_more c.args.parts.now.items c.loop-i.i c.index.result.now (omega arith) c.index.ensures c.weight-weight.ensures.regular c.loop-i.invariant.regular;
     }
 
 pub returns-clause-regular : goal.returns-clause-regular
-returns-clause-regular c = regular_at_end c.args.parts.now c.loop-part.part-index (omega arith) c.loop-part.invariant.regular
+returns-clause-regular c = regular_at_end c.args.parts.now.items c.loop-i.i (omega arith) c.loop-i.invariant.regular

@@ -5,9 +5,9 @@ use Rattle.abc_value.specs.Sizes.{trees_weight}
 use Rattle.abc_value.specs.Regular.{AllRegular}
 use Rattle.abc_value.proofs.sizes.total_weight.Given as goal
 
-abbrev pub invariant-loop-part : goal.invariant-loop-part
-invariant-loop-part l = record {
-  sum : l.weight ≡ trees_weight (trees (take l.part-index l.parts));
-  fits : l.weight ≤ l.part-index * MOST_WEIGHT;
-  regular : AllRegular (trees (take l.part-index l.parts));
+abbrev pub invariant-loop-i : goal.invariant-loop-i
+invariant-loop-i l = record {
+  sum : l.weight ≡ trees_weight (trees (take l.i l.parts.items));
+  fits : l.weight ≤ l.i * MOST_WEIGHT;
+  regular : AllRegular (trees (take l.i l.parts.items));
 }

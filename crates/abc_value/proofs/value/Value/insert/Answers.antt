@@ -30,18 +30,18 @@ returns-in_err-check_sizes-clause-sizes c =
 
 pub place_of-place-requires-clause-ordered : goal.place_of-place-requires-clause-ordered
 place_of-place-requires-clause-ordered c =
-    rw c.deref.ensures.value (list_parts c.in-List.items.items (node_tree c.self.inside.node) (ap node_tree c.in-List.is) c.self.invariant.2).0
+    (list_parts c.in-List.items.items (node_tree c.self.inside.node) (ap node_tree c.in-List.is) c.self.invariant.2).0
 
 pub place_of-place-requires-clause-regular : goal.place_of-place-requires-clause-regular
 place_of-place-requires-clause-regular c =
-    rw c.deref.ensures.value (list_parts c.in-List.items.items (node_tree c.self.inside.node) (ap node_tree c.in-List.is) c.self.invariant.2).1
+    (list_parts c.in-List.items.items (node_tree c.self.inside.node) (ap node_tree c.in-List.is) c.self.invariant.2).1
 
 pub invariant_of-self-2 : goal.invariant_of-self-2
 invariant_of-self-2 c =
     let xs = c.in-List.items.items in
     let e = c.args.e in
     let opened = ap node_tree c.in-List.is in
-    let now : c.insert.new.self.items ≡ add e xs = c.in_ok-insert.ensures.items ∙ add_placed e xs c.place_of-place.result (rw (← c.deref.ensures.value) c.place_of-place.ensures) in
+    let now : c.insert.new.self.items ≡ add e xs = c.in_ok-insert.ensures.items ∙ add_placed e xs c.place_of-place.result c.place_of-place.ensures in
     let count : c.len.result ≡ length c.in-List.items.items = omega arith in
     let high : c.self.inside.height ≡ height_of (list (trees xs)) = c.self.invariant.0 ∙ ap height_of opened in
     let heavy : c.self.inside.weight ≡ weight_of (list (trees xs)) = c.self.invariant.1 ∙ ap weight_of opened in
@@ -53,7 +53,7 @@ pub returns-clause-ok : goal.returns-clause-ok
 returns-clause-ok c =
     let xs = c.in-List.items.items in
     let e = c.args.e in
-    let now : c.insert.new.self.items ≡ add e xs = c.in_ok-insert.ensures.items ∙ add_placed e xs c.place_of-place.result (rw (← c.deref.ensures.value) c.place_of-place.ensures) in
+    let now : c.insert.new.self.items ≡ add e xs = c.in_ok-insert.ensures.items ∙ add_placed e xs c.place_of-place.result c.place_of-place.ensures in
     added_is e c.args.self.now xs c.insert.new.self.items (ap node_tree (sym c.in-List.is) ∙ c.self.view_is) now
 
 pub returns-clause-sizes : goal.returns-clause-sizes

@@ -11,7 +11,7 @@ returns-in-Table c =
 
 pub returns-in-Compound : goal.returns-in-Compound
 returns-in-Compound c =
-    c.nth.ensures ∙ ap (λ xs. slice_get xs c.args.i) (c.deref-in-Compound.ensures.value ∙ sym (listed_trees c.in-Compound.parts.items))
+    c.nth.ensures ∙ ap (λ xs. slice_get xs c.args.i) (sym (listed_trees c.in-Compound.parts.items))
     ∙ elim c.in-Compound.is [
       | inl h ↦ ap (λ n. slice_get (parts_of (node_tree n)) c.args.i) (sym h)
       | inr h ↦ ap (λ n. slice_get (parts_of (node_tree n)) c.args.i) (sym h)

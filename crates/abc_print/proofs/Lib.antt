@@ -1,0 +1,10 @@
+pub mod Collecting
+pub mod Complete
+pub mod Contents
+pub mod Lining
+pub mod LiteralLines
+pub mod Running
+pub mod Sound
+pub mod TokenFacts
+pub mod Tokenwise
+pub mod Words

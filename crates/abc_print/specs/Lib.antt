@@ -1,0 +1,4 @@
+pub mod Lexemes
+pub mod Lexing
+pub mod Literals
+pub mod Machine

@@ -1,0 +1,16 @@
+//! Values as texts, and texts as values.
+#![tactic(auto)]
+
+mod faults;
+mod frames;
+mod lexing;
+mod making;
+mod marks;
+mod reading;
+
+pub use abc_value::{PrintFault, display_of, text_of};
+pub use faults::LiteralFault;
+pub use reading::read_literal_line;
+
+#[cfg(test)]
+mod tests;

@@ -1,0 +1,79 @@
+//! Values from the parts of a literal.
+ghost use Rattle.std.specs.Prelude.{◌≡◌, [], ◌∷◌, ◌++◌};
+ghost use Rattle.abc_print.specs.Literals.{fielded, listed, tabled};
+ghost use Rattle.abc_print.specs.Machine.{Gives, refusal, pair_of};
+
+use crate::LiteralFault;
+use crate::frames::Pair;
+use abc_num::Items;
+use abc_value::{Value, ValueFault};
+use std::alloc::Global;
+
+/// A value past its bounds is spelled by no literal.
+fn refused(fault: ValueFault) -> LiteralFault
+    ensures { result ≡ refusal fault }
+{
+    match fault {
+        ValueFault::Memory => LiteralFault::Memory,
+        _ => LiteralFault::BadInput,
+    }
+}
+
+/// One field is itself, and several are a compound.
+pub(crate) fn fields_value(mut fields: Items<Value>, last: Value) -> Result<Value, LiteralFault>
+    ensures { Gives result (fielded (fields ++ last ∷ [])) }
+{
+    if fields.is_empty() {
+        return Ok(last);
+    }
+    fields.push(last)?;
+    match Value::compound(fields.into_vec()) {
+        Ok(value) => Ok(value),
+        Err(fault) => Err(refused(fault)),
+    }
+}
+
+/// The list of the elements.
+pub(crate) fn list_value(
+    alloc: Global,
+    mut elements: Items<Value>,
+    last: Value,
+) -> Result<Value, LiteralFault>
+    ensures { Gives result (listed (elements ++ last ∷ [])) }
+{
+    elements.push(last)?;
+    let mut rest = elements.into_vec();
+    let mut all = Value::empty(alloc);
+    while let Some(element) = rest.pop() {
+        match all.insert(element) {
+            Ok(()) => {}
+            Err(fault) => return Err(refused(fault)),
+        }
+    }
+    Ok(all)
+}
+
+/// The table of the pairs.
+pub(crate) fn table_value(
+    alloc: Global,
+    mut pairs: Items<Pair>,
+    key: Value,
+    associate: Value,
+) -> Result<Value, LiteralFault>
+    ensures { Gives result (tabled (pairs ++ pair_of key associate ∷ [])) }
+{
+    pairs.push(Pair { key, associate })?;
+    let mut rest = pairs.into_vec();
+    let mut all = Value::empty(alloc);
+    while let Some(pair) = rest.pop() {
+        let Pair { key, associate } = pair;
+        if all.get(&key).is_some() {
+            continue;
+        }
+        match all.put(key, associate) {
+            Ok(()) => {}
+            Err(fault) => return Err(refused(fault)),
+        }
+    }
+    Ok(all)
+}
