@@ -1,0 +1,10 @@
+use Rattle.std.proofs.Common.{◌≡◌, ◌+◌, ◌≤◌, ◌∷◌, [], true, length, All}
+use Rattle.abc_formula.specs.Lexemes.{IsSpelled}
+use Rattle.abc_formula.specs.TestMachine.{names_in}
+use Rattle.abc_formula.proofs.bounds.names_in.Given as goal
+
+abbrev pub invariant-loop-token : goal.invariant-loop-token
+invariant-loop-token l = (length l.ahead ≤ length l.tokens) × All IsSpelled l.ahead × (l.naming.left + length l.naming.groups ≤ l.left + 1) × (names_in l.own l.ahead l.naming.left l.naming.groups l.wants ≡ names_in l.own l.tokens l.left ([] ∷ []) true)
+
+abbrev pub decreases-loop-token : goal.decreases-loop-token
+decreases-loop-token l = length l.ahead

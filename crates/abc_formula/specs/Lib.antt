@@ -1,0 +1,17 @@
+-- What expressions, tests and addresses are.
+pub mod Signs
+pub mod Predefined
+pub mod Lexemes
+pub mod Operators
+pub mod Texts
+pub mod Grammar
+pub mod Numbers
+pub mod Machine
+pub mod Steps
+pub mod Splitting
+pub mod Heights
+pub mod Addresses
+pub mod AddressSteps
+pub mod TestGrammar
+pub mod TestMachine
+pub mod TestSteps

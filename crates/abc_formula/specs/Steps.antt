@@ -1,0 +1,95 @@
+-- What one step of the reading does, whatever is done next.
+use Rattle.std.specs.Prelude.{◌≡◌, ◌≤◌, Result, Ok, Err, ℕ, ◌+◌, List, [], ◌∷◌, Option, Some, None}
+use Rattle.abc_tree.specs.declared.formulas.Expr.{Expr}
+use Rattle.abc_formula.specs.declared.fault.FormulaFault.{FormulaFault}
+use Rattle.abc_formula.specs.declared.fault.FormulaFault.TheVariants as fault
+use Rattle.abc_formula.specs.declared.frames.Frame.{Frame}
+use Rattle.abc_formula.specs.declared.frames.Frame.TheVariants as f
+use Rattle.abc_formula.specs.declared.frames.Group.{Group}
+use Rattle.abc_formula.specs.declared.frames.Group.TheVariants as g
+use Rattle.abc_formula.specs.declared.frames.Operand.{Operand}
+use Rattle.abc_formula.specs.declared.tree.Front.{Front}
+use Rattle.abc_formula.specs.declared.frames.Step.{Step}
+use Rattle.abc_formula.specs.declared.frames.Step.TheVariants as step
+use Rattle.abc_formula.specs.declared.frames.Turn.{Turn}
+use Rattle.abc_formula.specs.declared.frames.Turn.TheVariants as turn
+use Rattle.abc_formula.specs.declared.lexemes.Lexeme.{Lexeme}
+use Rattle.abc_formula.specs.Machine.{Found, Next, reach, within, taken, popped}
+
+-- the machine goes on with a turn, or stops before the tokens that stand here
+abbrev pub Steps : List Lexeme → (Next → Found) → Result Step FormulaFault → ℕ → List Frame → Type 0
+Steps here machine (Ok (step.Goes turn)) d stack = (next : Next) → machine next ≡ next d stack turn
+Steps here machine (Ok (step.Stops a)) d stack = (next : Next) → machine next ≡ Some (a, here)
+Steps here machine (Err fault.BadCommand) d stack = (next : Next) → machine next ≡ None
+Steps here machine (Err fault.TooMany) d stack = ⊥
+Steps here machine (Err fault.Memory) d stack = Unit {0}
+
+abbrev pub behind : List (List ℕ) → Lexeme → List Lexeme → ℕ → List Frame → ℕ → ℕ → Expr → Next → Found
+behind own token ts d stack k m a next = taken (within (reach own token) k m) next d stack k a (popped own token ts next d stack a)
+
+-- ---- how many brackets are open
+
+abbrev pub group_opens : Group → ℕ
+group_opens (g.Whole parts) = 0
+group_opens g.Single = 0
+group_opens (g.Round parts) = 1
+group_opens (g.Select table parts) = 1
+group_opens (g.Key pairs parts) = 2
+group_opens (g.Fill fills) = 1
+group_opens (g.Range fills from) = 1
+group_opens (g.Associate pairs key) = 1
+
+abbrev pub opens : List Frame → ℕ
+opens [] = 0
+opens (f.Between k i a ∷ stack) = opens stack
+opens (f.Before k join ∷ stack) = opens stack
+opens (f.Inside k group ∷ stack) = group_opens group + opens stack
+
+abbrev pub held : Turn → ℕ
+held (turn.Wants k) = 0
+held (turn.Has k m a) = 0
+held (turn.Display k) = 1
+held (turn.Pair k pairs) = 1
+held (turn.Colon k pairs key) = 1
+
+-- those that are open and those that may open are no more than at first
+abbrev pub Counts : ℕ → Result Step FormulaFault → ℕ → List Frame → Type 0
+Counts most (Ok (step.Goes turn)) d stack = d + (opens stack + held turn) ≤ most
+Counts most (Ok (step.Stops a)) d stack = Unit {0}
+Counts most (Err fault) d stack = Unit {0}
+
+-- ---- answers
+
+abbrev pub Gives : Result Expr FormulaFault → Found → Type 0
+Gives (Ok a) found = found ≡ Some (a, [])
+Gives (Err fault.BadCommand) found = found ≡ None
+Gives (Err fault.TooMany) found = ⊥
+Gives (Err fault.Memory) found = Unit {0}
+
+-- what is found, or none
+abbrev pub Quotes : {X : Type 0} → Result (Option X) FormulaFault → Option X → Type 0
+Quotes (Ok x) found = found ≡ x
+Quotes (Err fault.BadCommand) found = ⊥
+Quotes (Err fault.TooMany) found = ⊥
+Quotes (Err fault.Memory) found = Unit {0}
+
+-- what a token begins in operand place
+abbrev pub IsOperand : Result Operand FormulaFault → Operand → Type 0
+IsOperand (Ok x) operand = operand ≡ x
+IsOperand (Err fault.BadCommand) operand = ⊥
+IsOperand (Err fault.TooMany) operand = ⊥
+IsOperand (Err fault.Memory) operand = Unit {0}
+
+-- the tree in front, and the tokens behind it
+abbrev pub Finds : Result Front FormulaFault → Found → Type 0
+Finds (Ok front) found = found ≡ Some (front.tree, front.rest.now)
+Finds (Err fault.BadCommand) found = found ≡ None
+Finds (Err fault.TooMany) found = ⊥
+Finds (Err fault.Memory) found = Unit {0}
+
+-- the tree of all tokens
+abbrev pub Answers : Result Expr FormulaFault → Option Expr → Type 0
+Answers (Ok a) found = found ≡ Some a
+Answers (Err fault.BadCommand) found = found ≡ None
+Answers (Err fault.TooMany) found = ⊥
+Answers (Err fault.Memory) found = Unit {0}

@@ -1,0 +1,140 @@
+-- The codes of a text.
+use Rattle.std.proofs.Common.{◌≡◌, ℕ, suc, zero, ◌+◌, ◌*◌, ◌≤◌, List, [], ◌∷◌, ◌++◌, length, take, refl, sym, ap, subst, ◌∙◌, arith, slice_get, Some, None, map, drop, reverse, Result, Err, inr, add-one}
+use Rattle.abc_num.specs.declared.limits.TheConstants.{MOST_ELEMENTS}
+use Rattle.abc_value.specs.declared.faults.ValueFault.{ValueFault}
+use Rattle.abc_value.specs.declared.faults.ValueFault.TheVariants.{Memory}
+use Rattle.abc_value.specs.Tree.{Tree, number, text, compound, list, table}
+use Rattle.abc_value.specs.Sizes.{length_of}
+use Rattle.abc_value.specs.Regular.{IsRegular, AreCharacters}
+use Rattle.abc_value.specs.Parts.{IsText, codes_of}
+use Rattle.abc_value.specs.Items.{IsAnswer}
+use Rattle.abc_value.specs.Regular.{IsCharacter}
+use Rattle.std.specs.List.{repeat}
+use Rattle.std.specs.Prelude.{nat_lt, ◌==◌, Bool, true, false, if◌then◌else◌}
+use Rattle.std.proofs.lemmas.Bool.Decides.{nat_tests}
+use Rattle.abc_predef.specs.declared.characters.Case.{Case}
+use Rattle.abc_predef.specs.declared.characters.Case.TheVariants.{Capital, Small}
+use Rattle.abc_predef.specs.Texts.{in_case, is_space, without_leading, stripped}
+use Rattle.std.proofs.lemmas.List.{length-append, append_assoc, length-reverse, reverse-append}
+
+pub regular_codes : (t : Tree) → IsRegular t → AreCharacters (codes_of t) × (length (codes_of t) ≤ MOST_ELEMENTS)
+unfolding IsRegular
+regular_codes (number n) h = (tt, omega arith)
+regular_codes (text b) h = (h.1, h.0.0)
+regular_codes (compound ts) h = (tt, omega arith)
+regular_codes (list ts) h = (tt, omega arith)
+regular_codes (table ps) h = (tt, omega arith)
+
+pub text_length : (t : Tree) → IsText t → length_of t ≡ length (codes_of t)
+text_length (number n) h = absurd h
+text_length (text b) h = refl
+text_length (compound ts) h = absurd h
+text_length (list ts) h = absurd h
+text_length (table ps) h = absurd h
+
+-- want of memory is an answer to all
+pub memory_answer : (a r : Result Tree ValueFault) (f : ValueFault) → r ≡ Err f → f ≡ Memory → IsAnswer a r
+memory_answer a r f e m = inr (e ∙ ap Err m)
+
+pub take_next : (xs : List ℕ) (n c : ℕ) → slice_get xs n ≡ Some c → take n xs ++ c ∷ [] ≡ take (n + 1) xs
+take_next xs n c e = sym (ap (λ k. take k xs) (add-one n) ∙ at xs n e)
+  where
+    at : (xs : List ℕ) (n : ℕ) → slice_get xs n ≡ Some c → take (suc n) xs ≡ take n xs ++ c ∷ []
+    at [] n e = absurd (cc)
+    at (x ∷ xs) zero e = let s : x ≡ c = cc in ap (λ y. y ∷ []) s
+    at (x ∷ xs) (suc n) e = ap (λ ys. x ∷ ys) (at xs n e)
+
+pub nothing_left : {X : Type 0} (xs : List X) (n : ℕ) → slice_get xs n ≡ None → length xs ≤ n
+nothing_left [] n e = omega arith
+nothing_left (x ∷ xs) zero e = absurd (cc)
+nothing_left (x ∷ xs) (suc n) e = let l = nothing_left xs n e in omega arith
+
+-- parts of characters are characters
+pub characters-append : (b c : List ℕ) → AreCharacters b → AreCharacters c → AreCharacters (b ++ c)
+characters-append [] c h k = k
+characters-append (x ∷ b) c h k = (h.0, characters-append b c h.1 k)
+
+pub characters-drop : (n : ℕ) (b : List ℕ) → AreCharacters b → AreCharacters (drop n b)
+characters-drop zero b h = h
+characters-drop (suc n) [] h = tt
+characters-drop (suc n) (x ∷ b) h = characters-drop n b h.1
+
+pub characters-take : (n : ℕ) (b : List ℕ) → AreCharacters b → AreCharacters (take n b)
+characters-take zero b h = tt
+characters-take (suc n) [] h = tt
+characters-take (suc n) (x ∷ b) h = (h.0, characters-take n b h.1)
+
+pub characters-repeat : (n : ℕ) (b : List ℕ) → AreCharacters b → AreCharacters (repeat n b)
+characters-repeat zero b h = tt
+characters-repeat (suc n) b h = characters-append b (repeat n b) h (characters-repeat n b h)
+
+pub characters-map : (f : ℕ → ℕ) (b : List ℕ) → ((c : ℕ) → IsCharacter c → IsCharacter (f c)) → AreCharacters b → AreCharacters (map f b)
+characters-map f [] k h = tt
+characters-map f (x ∷ b) k h = (k x h.0, characters-map f b k h.1)
+
+pub length-repeat : (n : ℕ) (b : List ℕ) → length (repeat n b) ≡ n * length b
+length-repeat zero b = omega arith
+length-repeat (suc n) b = length-append b (repeat n b) ∙ (let e = length-repeat n b in omega arith)
+
+pub repeat-none : (n : ℕ) → repeat {A = ℕ} n [] ≡ []
+repeat-none zero = refl
+repeat-none (suc n) = repeat-none n
+
+pub repeat-more : (n : ℕ) (b : List ℕ) → repeat n b ++ b ≡ repeat (n + 1) b
+repeat-more n b = at n ∙ sym (ap (λ k. repeat k b) (add-one n))
+  where
+    append_none : (xs : List ℕ) → xs ≡ xs ++ []
+    append_none [] = refl
+    append_none (x ∷ xs) = ap (λ ys. x ∷ ys) (append_none xs)
+
+    at : (n : ℕ) → repeat n b ++ b ≡ repeat (suc n) b
+    at zero = append_none b
+    at (suc n) = append_assoc b (repeat n b) b ∙ ap (λ ys. b ++ ys) (at n)
+
+pub empty_list : (b : List ℕ) → (length b == 0) ≡ true → b ≡ []
+empty_list [] e = refl
+empty_list (x ∷ b) e = absurd (let h : length (x ∷ b) ≡ 0 = grind (arith, nat_tests) in omega arith)
+
+pub short_repeat : (n : ℕ) (b : List ℕ) → nat_lt MOST_ELEMENTS (n * length b) ≡ false → length (repeat n b) ≤ MOST_ELEMENTS
+short_repeat n b e = let h : n * length b ≤ MOST_ELEMENTS = grind (arith, nat_tests) in omega (arith, length-repeat n b)
+
+-- the length of a value is within its bound
+pub length_small : (t : Tree) → IsRegular t → length_of t ≤ MOST_ELEMENTS
+unfolding IsRegular
+length_small (number n) h = omega arith
+length_small (text b) h = h.0.0
+length_small (compound ts) h = h.0.0
+length_small (list ts) h = h.0.0
+length_small (table ps) h = h.0.0
+
+pub character-in_case : (case : Case) (c : ℕ) → IsCharacter c → IsCharacter (in_case case c)
+character-in_case Capital c h = grind (arith, nat_tests)
+character-in_case Small c h = grind (arith, nat_tests)
+
+characters-leading : (b : List ℕ) → AreCharacters b → AreCharacters (without_leading b)
+characters-leading [] h = tt
+characters-leading (c ∷ cs) h = at (is_space c) (characters-leading cs h.1)
+  where
+    at : (t : Bool) → AreCharacters (without_leading cs) → AreCharacters (if t then without_leading cs else c ∷ cs)
+    at true rest = rest
+    at false rest = h
+
+length-leading : (b : List ℕ) → length (without_leading b) ≤ length b
+length-leading [] = omega arith
+length-leading (c ∷ cs) = at (is_space c) (length-leading cs)
+  where
+    at : (t : Bool) → length (without_leading cs) ≤ length cs → length (if t then without_leading cs else c ∷ cs) ≤ length (c ∷ cs)
+    at true rest = omega (arith, rest)
+    at false rest = omega arith
+
+characters-reverse : (b : List ℕ) → AreCharacters b → AreCharacters (reverse b)
+characters-reverse [] h = tt
+characters-reverse (c ∷ cs) h = subst AreCharacters (sym (reverse-append (c ∷ []) cs)) (characters-append (reverse cs) (c ∷ []) (characters-reverse cs h.1) (h.0, tt))
+
+pub characters-stripped : (b : List ℕ) → AreCharacters b → AreCharacters (stripped b)
+characters-stripped b h = characters-reverse (without_leading (reverse (without_leading b))) (characters-leading (reverse (without_leading b)) (characters-reverse (without_leading b) (characters-leading b h)))
+
+pub length-stripped : (b : List ℕ) → length (stripped b) ≤ length b
+length-stripped b =
+    let front = without_leading b in
+    omega (arith, length-leading b, length-reverse front, length-leading (reverse front), length-reverse (without_leading (reverse front)))

@@ -1,0 +1,10 @@
+pub mod Aligned
+pub mod Answers
+pub mod Numbers
+pub mod Operations
+pub mod Order
+pub mod Places
+pub mod Rows
+pub mod Takes
+pub mod Texts
+pub mod Trains

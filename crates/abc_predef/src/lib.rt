@@ -1,0 +1,21 @@
+//! The predefined rows: the table of names and signs, and what each row gives or tells.
+#![tactic(auto)]
+
+mod aligned;
+mod answers;
+mod apply;
+mod characters;
+mod collections;
+mod extremes;
+mod lookup;
+mod numbers;
+mod table;
+mod texts;
+mod trains;
+
+pub use apply::{apply1, apply2, holds2};
+pub use lookup::predefined;
+pub use table::{Letter, Operands, ROWS, Row, Rows, TABLE};
+
+#[cfg(test)]
+mod tests;
