@@ -1,6 +1,5 @@
 -- What expressions, tests and addresses are.
 pub mod Signs
-pub mod Predefined
 pub mod Lexemes
 pub mod Operators
 pub mod Texts

@@ -19,7 +19,8 @@ use Rattle.abc_formula.specs.declared.signs.Sign.{Sign}
 use Rattle.abc_formula.specs.declared.signs.Sign.TheVariants as s
 use Rattle.abc_formula.specs.declared.lexemes.Lexeme.{Lexeme}
 use Rattle.abc_formula.specs.declared.lexemes.Lexeme.TheVariants as t
-use Rattle.abc_formula.specs.Predefined.{one_place, two_places}
+use Rattle.abc_predef.specs.declared.table.TheConstants.{TABLE}
+use Rattle.abc_predef.specs.Order.{named}
 
 -- ---- what a name is
 
@@ -30,7 +31,7 @@ given (Some one) two = kind.Given (Some one) two
 
 abbrev pub kind_at : Option ℕ → List ℕ → Kind
 kind_at (Some i) x = kind.Own i
-kind_at None x = given (one_place x) (two_places x)
+kind_at None x = given (named TABLE (x, 1)) (named TABLE (x, 2))
 
 -- one's own, predefined, or that of a function or predicate
 unfoldable pub kind_of : List (List ℕ) → List ℕ → Kind

@@ -6,9 +6,9 @@ ghost use Rattle.abc_formula.specs.Machine.{role_of, sign_operand, leaf_operand,
 use crate::frames::{Infix, Join, Kind, Operand, Reach};
 use crate::lexemes::Lexeme;
 use crate::make::{binary, nullary, unary};
-use crate::predefined::{one_place, two_places};
 use crate::signs::Sign;
 use abc_num::{Items, Names, OutOfMemory, Text};
+use abc_predef::predefined;
 use abc_tree::{Expr, NameId, Op};
 use std::alloc::Global;
 
@@ -27,7 +27,7 @@ pub(crate) fn kind_of(own: &Names, name: &Text) -> Kind
 {
     match own.find(name) {
         Some(i) => Kind::Own(i),
-        None => given(one_place(name.bytes()), two_places(name.bytes())),
+        None => given(predefined(name.bytes(), 1), predefined(name.bytes(), 2)),
     }
 }
 

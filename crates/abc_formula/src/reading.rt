@@ -15,8 +15,7 @@ use crate::lexemes::Lexeme;
 use crate::make::{joined1, joined2, settled, wholly};
 use crate::names::{goes_on, reach, sign_of};
 use crate::signs::Sign;
-use crate::stack::Stack;
-use abc_num::{Items, Names};
+use abc_num::{Items, Names, Stack};
 use abc_tree::{Expr, Pairs};
 use std::alloc::Global;
 
@@ -24,7 +23,7 @@ use std::alloc::Global;
 #[derive(Drop)]
 pub(crate) struct Reader {
     pub(crate) alloc: Global,
-    pub(crate) stack: Stack,
+    pub(crate) stack: Stack<Frame>,
     pub(crate) left: u8,
     /// How many brackets could open at first.
     pub(crate) most: u8,

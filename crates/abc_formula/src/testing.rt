@@ -17,9 +17,9 @@ use crate::lexemes::Lexeme;
 use crate::signs::Sign;
 use crate::test_frames::{Behind, Front, Place, TestFrame};
 use crate::test_names::{is_keyword, membership_of, quantifier_of, relation_of};
-use crate::test_stack::TestStack;
 use crate::tree::{Front as ExpressionFront, tree};
-use abc_num::{Items, Names};
+use crate::wrapping::wrapped_by_all;
+use abc_num::{Items, Names, Stack};
 use abc_tokens::one_reading;
 use abc_tree::{Expr, Link, Links, Quantifier, Template, TemplateKind, Test};
 use std::alloc::Global;
@@ -289,7 +289,7 @@ fn quantified<'a>(
 /// ```
 fn join<'a>(
     alloc: Global,
-    frames: &mut TestStack,
+    frames: &mut Stack<TestFrame>,
     place: Place,
     test: Test,
     rest: &'a [Lexeme],
@@ -308,7 +308,7 @@ fn join<'a>(
             Ok(Advance::Goes(Place::Disjunct, rest_of(rest)))
         }
         Behind::Ends => {
-            let test = frames.finish(alloc, test)?;
+            let test = wrapped_by_all(alloc, frames, test)?;
             Ok(Advance::Ends(TestFront { test, rest }))
         }
     }
@@ -387,7 +387,7 @@ fn part_in_front<'a>(
 fn read_part<'a>(
     alloc: Global,
     own: &Names,
-    frames: &mut TestStack,
+    frames: &mut Stack<TestFrame>,
     place: Place,
     tokens: &'a [Lexeme],
     left: u8,
@@ -429,7 +429,7 @@ pub(crate) fn test_in_front<'a>(
     ensures finds { (c n : ℕ) → left ≤ c → length tokens.now ≤ n → FindsTest result (test_in (reader own.now c) own.now n Whole left tokens.now) }
     ensures rest { IfOk result (λ front. Fewer front.rest.now tokens.now) }
 {
-    let mut frames = TestStack::new(alloc);
+    let mut frames = Stack::new(alloc);
     let mut place = Place::Whole;
     let mut ahead = tokens;
     loop {

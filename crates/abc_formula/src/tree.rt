@@ -12,9 +12,8 @@ use crate::lexemes::{Lexeme, lexed};
 use crate::names::{operand, sign_of};
 use crate::reading::Reader;
 use crate::signs::Sign;
-use crate::stack::Stack;
 use crate::texts::{Part, split_text};
-use abc_num::{BadNumber, Items, Names, Text, read_literal};
+use abc_num::{BadNumber, Items, Names, Stack, Text, read_literal};
 use abc_tree::{Expr, Piece, Pieces};
 use std::alloc::Global;
 

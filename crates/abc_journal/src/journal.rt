@@ -1,6 +1,6 @@
 //! The journal: what is known of an image that is open, and how a record is added to it.
 ghost use Rattle.std.specs.Prelude.{◌≡◌, ◌≤◌, ◌<◌, ◌↔◌, ◌⊎◌, ◌++◌, true, false, [], ◌∷◌, List, ℕ, length, Ok, Err, IfOk, OnOk, IsErrOf, IsTrue};
-ghost use Rattle.abc_outside.specs.Outside.{Outside, Rose, KeepsButStore};
+ghost use Rattle.abc_outside.specs.Outside.{Rose, KeepsButStore};
 ghost use Rattle.abc_outside.specs.Stop.{Leaves, IsQuiet};
 ghost use Rattle.abc_journal.specs.Image.{opened, payloads_of, settled_image};
 ghost use Rattle.abc_journal.specs.Journal.{HasLayout, need_of, after_record, IfNotAStore, IsNotAStore, IsNoFault, IsFull, SaysNeed, BeginsQuiet, IsSame, IsBeforeOrAfter};

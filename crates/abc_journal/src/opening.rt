@@ -1,6 +1,6 @@
 //! Opening: a short image is made fresh, a longer one is read.
-ghost use Rattle.std.specs.Prelude.{◌≡◌, ◌≤◌, ◌<◌, ◌⊎◌, [], ◌∷◌, List, ℕ, length, Ok, Err, IfOk, OnOk, OnErr, IsErrOf, IsTrue, ◌↔◌, drop, ◌+◌};
-ghost use Rattle.abc_outside.specs.Outside.{Outside, Rose, KeepsButStore};
+ghost use Rattle.std.specs.Prelude.{◌≡◌, ◌≤◌, ◌<◌, ◌⊎◌, List, ℕ, length, Ok, Err, IfOk, OnOk, OnErr, IsErrOf, IsTrue, ◌↔◌, drop, ◌+◌};
+ghost use Rattle.abc_outside.specs.Outside.{Rose, KeepsButStore};
 ghost use Rattle.abc_outside.specs.Stop.{Torn, Leaves};
 ghost use Rattle.abc_journal.specs.Image.{fresh_image, opened_at, read_image as reads};
 ghost use Rattle.abc_journal.specs.Journal.{IfNotAStore};

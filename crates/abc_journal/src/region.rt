@@ -1,5 +1,5 @@
 //! Reading the head and a region from bytes.
-ghost use Rattle.std.specs.Prelude.{◌≡◌, ◌≤◌, ◌<◌, ◌+◌, ◌^◌, [], ◌∷◌, List, ℕ, length, drop, Ok, Err, IsErrOf};
+ghost use Rattle.std.specs.Prelude.{◌≡◌, ◌≤◌, ◌<◌, ◌+◌, ◌^◌, List, ℕ, length, drop, Ok, Err, IsErrOf};
 ghost use Rattle.abc_journal.specs.Image.{follow, word_at as word_of, slot_at as slot_of, live_slot as live_of};
 ghost use Rattle.abc_journal.specs.Region.{Stands, IsRegion};
 

@@ -1,6 +1,6 @@
 //! Writing to the store so that it stays.
-ghost use Rattle.std.specs.Prelude.{◌≡◌, ◌≤◌, ◌++◌, [], ◌∷◌, List, ℕ, length, IfOk, OnOk, OnErr};
-ghost use Rattle.abc_outside.specs.Outside.{Outside, Rose, KeepsButStore};
+ghost use Rattle.std.specs.Prelude.{◌≡◌, ◌≤◌, List, ℕ, length, IfOk, OnOk, OnErr};
+ghost use Rattle.abc_outside.specs.Outside.{Rose, KeepsButStore};
 ghost use Rattle.abc_outside.specs.Stop.{written, Torn, Leaves};
 ghost use Rattle.abc_journal.specs.Image.{behind_gate};
 

@@ -1,6 +1,5 @@
 //! Inputs cut into items as an independent program cuts them, and items at the bounds.
 use crate::*;
-use abc_num::OutOfMemory;
 use std::alloc::{AllocError, Global};
 use std::test::Fail;
 

@@ -13,6 +13,7 @@ mod number;
 mod power;
 mod reduce;
 mod rounding;
+mod stack;
 mod text;
 mod types;
 
@@ -23,6 +24,7 @@ pub use literal::{BadNumber, read_literal};
 pub use memory::OutOfMemory;
 pub use names::Names;
 pub use number::{Num, NumFault};
+pub use stack::Stack;
 pub use text::Text;
 pub use types::{Ground, Grounds};
 

@@ -1,5 +1,5 @@
 //! Numbers: whole numbers of 127 bits, and fractions in lowest terms whose parts have 63 bits.
-ghost use Rattle.std.specs.Prelude.{◌≡◌, ◌≢◌, ◌↔◌, ℤ, pos, neg_ℤ, ◌^◌, ◌≤◌, ◌<◌, unsigned_abs, IfOk, IfErr, IsErrOf};
+ghost use Rattle.std.specs.Prelude.{◌≡◌, ◌↔◌, pos, neg_ℤ, ◌^◌, ◌≤◌, ◌<◌, unsigned_abs, IfOk, IfErr, IsErrOf};
 ghost use Rattle.std.specs.Bool.{OnTrue, OnFalse};
 ghost use Rattle.std.specs.Int.{int_signum};
 ghost use Rattle.abc_num.specs.Number.{fraction, signed, IsNumber, AreParts, whole_number, whole_of, num_cmp};

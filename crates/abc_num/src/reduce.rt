@@ -1,5 +1,5 @@
 //! From any fraction to the number that it is.
-ghost use Rattle.std.specs.Prelude.{◌≡◌, ◌<◌, ◌*◌, ◌^◌, pos};
+ghost use Rattle.std.specs.Prelude.{◌<◌, ◌*◌, pos};
 ghost use Rattle.std.specs.Int.{IsGcd};
 ghost use Rattle.abc_num.specs.Number.{signed};
 ghost use Rattle.abc_num.specs.Ratio.{IsRatio};

@@ -121,3 +121,23 @@ fn lines_and_types_are_held(rt: HostRuntime) -> Result<(), OutOfMemory> {
     assert!(rt; matches!(associate.get(), Ground::Compound(_)));
     Ok(())
 }
+
+#[test]
+fn a_stack_gives_the_newest_first(rt: HostRuntime) -> Result<(), OutOfMemory> {
+    let alloc = rt.alloc();
+    let mut stack: Stack<Text> = Stack::new(alloc);
+    stack.push(Text::of(alloc, b"older")?)?;
+    stack.push(Text::of(alloc, b"newer")?)?;
+    assert!(rt;
+        stack
+            .pop()
+            .is_some_and(|entry| entry.bytes() == b"newer".as_slice())
+    );
+    assert!(rt;
+        stack
+            .pop()
+            .is_some_and(|entry| entry.bytes() == b"older".as_slice())
+    );
+    assert!(rt; stack.pop().is_none());
+    Ok(())
+}

@@ -1,5 +1,5 @@
 //! The host in memory: an image, an input and what was said, with calls that fail where a test wants it.
-ghost use Rattle.std.specs.Prelude.{◌≡◌, ◌≢◌, ◌≤◌, ◌<◌, ◌+◌, ◌-◌, ◌^◌, ◌++◌, [], ◌∷◌, List, ℕ, option_map, length, take, drop, min, vec_len, is_err, if◌then◌else◌, IfOk, OnOk, OnErr, IsSome, IsNone, IsErrOf};
+ghost use Rattle.std.specs.Prelude.{◌≡◌, ◌≢◌, ◌≤◌, ◌<◌, ◌+◌, ◌-◌, ◌^◌, ◌++◌, [], ◌∷◌, List, ℕ, option_map, length, take, drop, min, vec_len, is_err, IfOk, OnOk, OnErr, IsSome, IsNone, IsErrOf};
 ghost use Rattle.abc_outside.specs.Outside.{Rose, KeepsButStore, KeepsButInput, KeepsButSaid, KeepsButChoice};
 ghost use Rattle.abc_outside.specs.Stop.{written, Torn, Shortened, Passes};
 

@@ -1,6 +1,6 @@
 //! What no clause says: that ample memory is enough, and that the definitions mean what they should, by values that were
 //! computed elsewhere.
-ghost use Rattle.std.specs.Prelude.{◌≡◌, ◌∷◌, [], IfOk};
+ghost use Rattle.std.specs.Prelude.{◌∷◌, [], IfOk};
 ghost use Rattle.abc_num.specs.declared.types.Ground.TheVariants as Ground;
 ghost use Rattle.abc_value.specs.Tree.{Tree};
 ghost use Rattle.abc_value.specs.Types.{has};

@@ -1,7 +1,6 @@
 //! The elements of trains: their order, and how many equal a value.
-ghost use Rattle.std.specs.Prelude.{◌≡◌, ◌<◌, ◌∷◌, [], length, nat_lt, Ok};
+ghost use Rattle.std.specs.Prelude.{◌≡◌, ◌<◌, ◌∷◌, [], length, Ok};
 ghost use Rattle.std.specs.List.{count_by};
-ghost use Rattle.std.specs.Ordering.{is_eq};
 ghost use Rattle.abc_value.specs.Tree.{text};
 ghost use Rattle.abc_value.specs.Order.{order};
 ghost use Rattle.abc_value.specs.Parts.{IsText, IsList};

@@ -24,9 +24,9 @@ use Rattle.abc_print.specs.Lexemes.{class_of, signs_class, sign_class}
 use Rattle.abc_print.specs.Lexing.{IsToken}
 
 -- the last bytes of the line
-record IsSuffix (line bytes : List ℕ) : Type 0 where
-  short : length bytes ≤ length line
-  is : bytes ≡ drop (length line - length bytes) line
+pub record IsSuffix (line bytes : List ℕ) : Type 0 where
+  pub short : length bytes ≤ length line
+  pub is : bytes ≡ drop (length line - length bytes) line
 
 drop_nil : (m : ℕ) → drop m (let none : List ℕ = [] in none) ≡ []
 drop_nil zero = refl
@@ -67,7 +67,7 @@ mutual
   converts_ends (c.text {q = q} {bytes = bytes} {more = more} {rest = rest} u h d) = ends_more q bytes rest (ends_on bytes more rest (closes_ends h) (converts_ends d))
   converts_ends (c.other {b = b} {bytes = bytes} {rest = rest} s h k u n d) = ends_more b bytes rest (converts_ends d)
 
-suffix_drop : (line bytes : List ℕ) (n : ℕ) → n ≤ length bytes → IsSuffix line bytes → IsSuffix line (drop n bytes)
+pub suffix_drop : (line bytes : List ℕ) (n : ℕ) → n ≤ length bytes → IsSuffix line bytes → IsSuffix line (drop n bytes)
 suffix_drop line bytes n h s =
     let size : length (drop n bytes) ≡ length bytes - n = length-drop n bytes in
     let at : length line - length bytes + n ≡ length line - length (drop n bytes) = omega (arith, size, s.short) in record {
@@ -75,7 +75,7 @@ suffix_drop line bytes n h s =
       is = ap (drop n) s.is ∙ drop_drop n (length line - length bytes) line ∙ ap (λ k. drop k line) at;
     }
 
-taken : (line bytes : List ℕ) (n : ℕ) → IsSuffix line bytes → spelling line (token kind.Number (place (length line) bytes) (place (length line) bytes + n)) ≡ take n bytes
+pub taken : (line bytes : List ℕ) (n : ℕ) → IsSuffix line bytes → spelling line (token kind.Number (place (length line) bytes) (place (length line) bytes + n)) ≡ take n bytes
 taken line bytes n s =
     let p = place (length line) bytes in
     let many : p + n - p ≡ n = omega arith in
@@ -107,7 +107,7 @@ all_tokens line (other {b = b} {bytes = bytes} n m u w h) s = (
 )
 all_tokens line (open_text e u w) s = cc
 
-whole_suffix : (line : List ℕ) → IsSuffix line line
+pub whole_suffix : (line : List ℕ) → IsSuffix line line
 whole_suffix line = record { short = omega arith; is = ap (λ k. drop k line) (let e : 0 ≡ length line - length line = omega arith in e) }
 
 at_place : (line : List ℕ) (ts : List Token) (i : ℕ) (d : Token) → AllByRecursion (IsToken line) ts → i < length ts → IsToken line (get_or ts i d)
@@ -159,7 +159,7 @@ bad_is_not_sound ns a b =
 abbrev pub OneReading : Type 0
 OneReading = (line : List ℕ) (ts : List Token) (ns : List (List ℕ)) → HasTokens line ts ns ↔ (scanned false (length line) line 0 ≡ Some (ts, ns))
 
-some_is : {A : Type 0} {x y : A} → Some x ≡ Some y → x ≡ y
+pub some_is : {A : Type 0} {x y : A} → Some x ≡ Some y → x ≡ y
 some_is e = cc
 
 pub no_tokens : OneReading → (line : List ℕ) (f : TokenFault) (ts : List Token) → (f ≡ token_fault.Memory → ⊥) → HasFault line f → AreTokens line ts → ⊥

@@ -1,3 +1,4 @@
+pub mod Laws
 pub mod Lexemes
 pub mod Lexing
 pub mod Literals

@@ -3,6 +3,7 @@
 
 mod faults;
 mod frames;
+mod laws;
 mod lexing;
 mod making;
 mod marks;
@@ -10,6 +11,7 @@ mod reading;
 
 pub use abc_value::{PrintFault, display_of, text_of};
 pub use faults::LiteralFault;
+pub use laws::displays_read_back;
 pub use reading::read_literal_line;
 
 #[cfg(test)]

@@ -2,16 +2,16 @@
 ghost use Rattle.abc_print.specs.Machine.{Steps, emptied, first_key, later_key, at_part, at_bracket, at_colon, with_field, with_entry, closed, unbracketed, unbraced, behind, at_mark};
 
 use crate::LiteralFault;
-use crate::frames::{Frame, Mark, Pair, Stack, Turn};
+use crate::frames::{Frame, Mark, Pair, Turn};
 use crate::making::{fields_value, list_value, table_value};
-use abc_num::Items;
+use abc_num::{Items, Stack};
 use abc_value::Value;
 use std::alloc::Global;
 
 /// The sign at this turn.
 pub(crate) fn at_mark(
     alloc: Global,
-    stack: &mut Stack,
+    stack: &mut Stack<Frame>,
     mark: Mark,
     turn: Turn,
 ) -> Result<Turn, LiteralFault>
@@ -26,7 +26,7 @@ pub(crate) fn at_mark(
 }
 
 /// Where a part may begin.
-fn at_part(alloc: Global, stack: &mut Stack, mark: Mark) -> Result<Turn, LiteralFault>
+fn at_part(alloc: Global, stack: &mut Stack<Frame>, mark: Mark) -> Result<Turn, LiteralFault>
     ensures { Steps (λ next. at_part mark next stack.old) result stack.new }
 {
     match mark {
@@ -49,7 +49,7 @@ fn at_part(alloc: Global, stack: &mut Stack, mark: Mark) -> Result<Turn, Literal
 }
 
 /// `{}`.
-fn emptied(alloc: Global, stack: &mut Stack) -> Result<Turn, LiteralFault>
+fn emptied(alloc: Global, stack: &mut Stack<Frame>) -> Result<Turn, LiteralFault>
     ensures { Steps (λ next. emptied next stack.old) result stack.new }
 {
     match stack.pop() {
@@ -69,7 +69,7 @@ fn emptied(alloc: Global, stack: &mut Stack) -> Result<Turn, LiteralFault>
 }
 
 /// `{` and the bracket of a key.
-fn first_key(alloc: Global, stack: &mut Stack) -> Result<Turn, LiteralFault>
+fn first_key(alloc: Global, stack: &mut Stack<Frame>) -> Result<Turn, LiteralFault>
     ensures { Steps (λ next. first_key next stack.old) result stack.new }
 {
     match stack.pop() {
@@ -90,7 +90,7 @@ fn first_key(alloc: Global, stack: &mut Stack) -> Result<Turn, LiteralFault>
 }
 
 /// Where a further key has to begin.
-fn at_bracket(alloc: Global, stack: &mut Stack, mark: Mark) -> Result<Turn, LiteralFault>
+fn at_bracket(alloc: Global, stack: &mut Stack<Frame>, mark: Mark) -> Result<Turn, LiteralFault>
     ensures { Steps (λ next. at_bracket mark next stack.old) result stack.new }
 {
     match mark {
@@ -106,7 +106,7 @@ fn at_bracket(alloc: Global, stack: &mut Stack, mark: Mark) -> Result<Turn, Lite
     }
 }
 
-fn later_key(alloc: Global, stack: &mut Stack) -> Result<Turn, LiteralFault>
+fn later_key(alloc: Global, stack: &mut Stack<Frame>) -> Result<Turn, LiteralFault>
     ensures { Steps (λ next. later_key next stack.old) result stack.new }
 {
     match stack.pop() {
@@ -124,7 +124,7 @@ fn later_key(alloc: Global, stack: &mut Stack) -> Result<Turn, LiteralFault>
 }
 
 /// Behind a key.
-fn at_colon(stack: &mut Stack, mark: Mark) -> Result<Turn, LiteralFault>
+fn at_colon(stack: &mut Stack<Frame>, mark: Mark) -> Result<Turn, LiteralFault>
     ensures { Steps (λ next. at_colon mark next stack.old) result stack.new }
 {
     match mark {
@@ -141,7 +141,12 @@ fn at_colon(stack: &mut Stack, mark: Mark) -> Result<Turn, LiteralFault>
 }
 
 /// Behind a part.
-fn behind(alloc: Global, stack: &mut Stack, mark: Mark, last: Value) -> Result<Turn, LiteralFault>
+fn behind(
+    alloc: Global,
+    stack: &mut Stack<Frame>,
+    mark: Mark,
+    last: Value,
+) -> Result<Turn, LiteralFault>
     ensures { Steps (λ next. behind mark next stack.old last) result stack.new }
 {
     match mark {
@@ -157,7 +162,7 @@ fn behind(alloc: Global, stack: &mut Stack, mark: Mark, last: Value) -> Result<T
     }
 }
 
-fn comma(stack: &mut Stack, last: Value) -> Result<Turn, LiteralFault>
+fn comma(stack: &mut Stack<Frame>, last: Value) -> Result<Turn, LiteralFault>
     ensures { Steps (λ next. with_field next stack.old last) result stack.new }
 {
     match stack.pop() {
@@ -183,7 +188,7 @@ fn comma(stack: &mut Stack, last: Value) -> Result<Turn, LiteralFault>
     }
 }
 
-fn semicolon(stack: &mut Stack, last: Value) -> Result<Turn, LiteralFault>
+fn semicolon(stack: &mut Stack<Frame>, last: Value) -> Result<Turn, LiteralFault>
     ensures { Steps (λ next. with_entry next stack.old last) result stack.new }
 {
     match stack.pop() {
@@ -208,7 +213,7 @@ fn semicolon(stack: &mut Stack, last: Value) -> Result<Turn, LiteralFault>
     }
 }
 
-fn close(stack: &mut Stack, last: Value) -> Result<Turn, LiteralFault>
+fn close(stack: &mut Stack<Frame>, last: Value) -> Result<Turn, LiteralFault>
     ensures { Steps (λ next. closed next stack.old last) result stack.new }
 {
     match stack.pop() {
@@ -222,7 +227,7 @@ fn close(stack: &mut Stack, last: Value) -> Result<Turn, LiteralFault>
     }
 }
 
-fn unbracket(stack: &mut Stack, last: Value) -> Result<Turn, LiteralFault>
+fn unbracket(stack: &mut Stack<Frame>, last: Value) -> Result<Turn, LiteralFault>
     ensures { Steps (λ next. unbracketed next stack.old last) result stack.new }
 {
     match stack.pop() {
@@ -240,7 +245,7 @@ fn unbracket(stack: &mut Stack, last: Value) -> Result<Turn, LiteralFault>
     }
 }
 
-fn unbrace(alloc: Global, stack: &mut Stack, last: Value) -> Result<Turn, LiteralFault>
+fn unbrace(alloc: Global, stack: &mut Stack<Frame>, last: Value) -> Result<Turn, LiteralFault>
     ensures { Steps (λ next. unbraced next stack.old last) result stack.new }
 {
     match stack.pop() {

@@ -5,12 +5,12 @@ ghost use Rattle.abc_print.specs.Lexemes.{IsLiteralLine};
 ghost use Rattle.abc_print.specs.Machine.{Steps, Gives, unread, at_value, at_lexeme, finished, value_of};
 
 use crate::LiteralFault;
-use crate::frames::{Frame, Lexeme, Stack, Turn};
+use crate::frames::{Frame, Lexeme, Turn};
 use crate::lexing::lexemes;
 use crate::making::fields_value;
 use crate::marks::at_mark;
-use abc_num::Items;
 use abc_num::limits::MOST_LINE_BYTES;
+use abc_num::{Items, Stack};
 use abc_tokens::{TokenFault, one_reading, tokens};
 use abc_value::Value;
 use std::alloc::Global;
@@ -66,7 +66,7 @@ fn value(alloc: Global, lexemes: VecDeque<Lexeme>) -> Result<Value, LiteralFault
 }
 
 /// At the end of the lexemes.
-fn finish(stack: &mut Stack, last: Value) -> Result<Value, LiteralFault>
+fn finish(stack: &mut Stack<Frame>, last: Value) -> Result<Value, LiteralFault>
     ensures { Gives result (finished stack.old last) }
 {
     match stack.pop() {
@@ -84,7 +84,12 @@ fn finish(stack: &mut Stack, last: Value) -> Result<Value, LiteralFault>
 }
 
 /// One lexeme.
-fn step(alloc: Global, stack: &mut Stack, lexeme: Lexeme, turn: Turn) -> Result<Turn, LiteralFault>
+fn step(
+    alloc: Global,
+    stack: &mut Stack<Frame>,
+    lexeme: Lexeme,
+    turn: Turn,
+) -> Result<Turn, LiteralFault>
     ensures { Steps (λ next. at_lexeme lexeme next stack.old turn) result stack.new }
 {
     match lexeme {
@@ -93,7 +98,7 @@ fn step(alloc: Global, stack: &mut Stack, lexeme: Lexeme, turn: Turn) -> Result<
     }
 }
 
-fn at_value(stack: &mut Stack, value: Value, turn: Turn) -> Result<Turn, LiteralFault>
+fn at_value(stack: &mut Stack<Frame>, value: Value, turn: Turn) -> Result<Turn, LiteralFault>
     ensures { Steps (λ next. at_value value next stack.old turn) result stack.new }
 {
     match turn {

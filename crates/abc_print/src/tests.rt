@@ -65,6 +65,17 @@ fn reads(alloc: Global, line: &[u8], display: &[u8]) -> Result<bool, LiteralFaul
 }
 
 #[test]
+fn displays_are_read_back(rt: HostRuntime) -> Result<(), LiteralFault> {
+    displays_read_back();
+    let alloc = rt.alloc();
+    let parts = b"(-0.25, -7/3, \"a\"\"b``\", {})";
+    assert!(rt; reads(alloc, parts, parts)?);
+    let table = b"{[(1, 2)]: {-1; 1/3}; [(1, 3)]: \"\"; [{}]: ({}, {[0]: 0})}";
+    assert!(rt; reads(alloc, table, table)?);
+    Ok(())
+}
+
+#[test]
 fn lines_are_read(rt: HostRuntime) -> Result<(), LiteralFault> {
     let alloc = rt.alloc();
     assert!(rt; reads(alloc, b"(1, 'it''s')", b"(1, \"it's\")")?);

@@ -1,5 +1,5 @@
 -- What a record's payload reads back to.
-use Rattle.std.proofs.Common.{◌≡◌, ℕ, ◌+◌, ◌*◌, ◌/◌, ◌%◌, ◌^◌, ◌<◌, ◌≤◌, true, List, [], ◌∷◌, ◌++◌, length, take, drop, Some, None, cond, refl, sym, ◌∙◌, ap, arith, append_assoc, length-append, nat_le, if◌then◌else◌, ℤ, pos, Fits, FitsSigned}
+use Rattle.std.proofs.Common.{◌≡◌, ℕ, ◌+◌, ◌*◌, ◌/◌, ◌%◌, ◌^◌, ◌<◌, ◌≤◌, true, List, [], ◌∷◌, ◌++◌, length, take, drop, Some, None, cond, refl, sym, ◌∙◌, ap, arith, append_assoc, length-append, nat_le, ◌&&◌, if◌then◌else◌, ℤ, pos, Fits, FitsSigned}
 use Rattle.std.specs.Prelude.{neg_ℤ, option_map, option_and_then}
 use Rattle.std.specs.Int.{w128, cast_signed, cast_unsigned}
 use Rattle.std.proofs.lemmas.Nat.{from_be_bytes-to_be_bytes_4, from_be_bytes-to_be_bytes_8}
@@ -7,9 +7,10 @@ use Rattle.std.proofs.lemmas.List.{take_at, drop_at, append-nil, drop-drop}
 use Rattle.std.proofs.lemmas.Int.{to_z-of_z}
 use Rattle.std.proofs.Math.Facts.{Fits-of_z}
 use Rattle.std.proofs.lemmas.Bool.{le-leb}
+use Rattle.abc_num.specs.declared.limits.TheConstants.{MOST_LINE_BYTES}
 use Rattle.abc_session.specs.Command.{is_some_of, is_letter}
 use Rattle.abc_session.specs.Targets.{Targets, with_value}
-use Rattle.abc_session.specs.Record.{in_four, four_at, in_eight, eight_at, spelled_number, spelled_text, spelled_change, spelled, text_at, bits_at, number_at, named, change_at, applied}
+use Rattle.abc_session.specs.Record.{in_four, four_at, in_eight, eight_at, spelled_number, spelled_text, spelled_change, spelled, text_at, bits_at, number_at, is_kept_name, named, change_at, applied}
 use Rattle.abc_session.proofs.Numbers.{number_found}
 use Rattle.abc_session.proofs.Changes.{made, made_first, applied_is}
 
@@ -80,17 +81,20 @@ number_back value rest fits other =
     fits_lt : {m : ℕ} → Fits w128 m → m < 2 ^ 128
     fits_lt {m} f = omega (arith, f)
 
-pub change_back : (name rest : List ℕ) (value : ℤ) → length name < 2 ^ 32 → is_some_of is_letter name ≡ true → FitsSigned w128 value → (value ≡ neg_ℤ (pos (2 ^ 127)) → ⊥)
+kept_name : (name : List ℕ) → length name ≤ MOST_LINE_BYTES → is_some_of is_letter name ≡ true → is_kept_name name ≡ true
+kept_name name short letters = ap (λ t. t && nat_le (length name) MOST_LINE_BYTES) letters ∙ le-leb (length name) MOST_LINE_BYTES short
+
+pub change_back : (name rest : List ℕ) (value : ℤ) → length name ≤ MOST_LINE_BYTES → is_some_of is_letter name ≡ true → FitsSigned w128 value → (value ≡ neg_ℤ (pos (2 ^ 127)) → ⊥)
     → change_at (spelled_change (name, value) ++ rest) ≡ Some ((name, value), rest)
 unfolding change_at spelled_change
 change_back name rest value short letters fits other =
     ap (λ (l : List ℕ). option_and_then named (text_at l)) (append_assoc (spelled_text name) (spelled_number value) rest)
-    ∙ ap (λ found. option_and_then named found) (text_back name (spelled_number value ++ rest) short)
-    ∙ ap (λ t. cond t (option_map (λ (number : ℤ × List ℕ). ((name, number.0), number.1)) (number_at (spelled_number value ++ rest))) None) letters
+    ∙ ap (λ found. option_and_then named found) (text_back name (spelled_number value ++ rest) (omega (arith, short)))
+    ∙ ap (λ t. cond t (option_map (λ (number : ℤ × List ℕ). ((name, number.0), number.1)) (number_at (spelled_number value ++ rest))) None) (kept_name name short letters)
     ∙ ap (λ found. option_map (λ (number : ℤ × List ℕ). ((name, number.0), number.1)) found) (number_back value rest fits other)
 
 -- the record of a change makes that change
-pub applied_one : (name : List ℕ) (value : ℤ) (targets : Targets) → length name < 2 ^ 32 → is_some_of is_letter name ≡ true → FitsSigned w128 value → (value ≡ neg_ℤ (pos (2 ^ 127)) → ⊥)
+pub applied_one : (name : List ℕ) (value : ℤ) (targets : Targets) → length name ≤ MOST_LINE_BYTES → is_some_of is_letter name ≡ true → FitsSigned w128 value → (value ≡ neg_ℤ (pos (2 ^ 127)) → ⊥)
     → applied (spelled (name, value)) targets ≡ Some (with_value name value targets)
 unfolding spelled
 applied_one name value targets short letters fits other =

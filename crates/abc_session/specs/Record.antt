@@ -1,6 +1,7 @@
 -- What a record of the store holds: changes, each of which gives a target its value.
-use Rattle.std.specs.Prelude.{ℕ, zero, suc, ◌+◌, ◌*◌, ◌/◌, ◌%◌, ◌^◌, not, ◌&&◌, ℤ, List, [], ◌∷◌, ◌++◌, length, take, drop, Option, None, Some, option_map, option_and_then, if◌then◌else◌, ◌==◌, nat_le}
+use Rattle.std.specs.Prelude.{ℕ, zero, suc, ◌+◌, ◌*◌, ◌/◌, ◌%◌, ◌^◌, Bool, not, ◌&&◌, ℤ, List, [], ◌∷◌, ◌++◌, length, take, drop, Option, None, Some, option_map, option_and_then, if◌then◌else◌, ◌==◌, nat_le}
 use Rattle.std.specs.Int.{w32, w64, w128, to_be_bytes, from_be_bytes, cast_signed, cast_unsigned}
+use Rattle.abc_num.specs.declared.limits.TheConstants.{MOST_LINE_BYTES}
 use Rattle.abc_session.specs.Targets.{Targets, with_value}
 use Rattle.abc_session.specs.Command.{is_some_of, is_letter}
 
@@ -52,9 +53,13 @@ number_at [] = None
 number_at (tag ∷ bytes) =
     if tag == 0 && nat_le 16 (length bytes) && not (bits_at bytes == 2 ^ 127) then Some (cast_signed w128 (bits_at bytes), drop 16 bytes) else None
 
--- the name is one or more letters
+-- a name that a line can hold: one or more letters, and no more than a line has bytes
+abbrev pub is_kept_name : List ℕ → Bool
+is_kept_name name = is_some_of is_letter name && nat_le (length name) MOST_LINE_BYTES
+
+-- the name and its value
 abbrev pub named : List ℕ × List ℕ → Option (Change × List ℕ)
-named text = if is_some_of is_letter text.0 then option_map (λ number. ((text.0, number.0), number.1)) (number_at text.1) else None
+named text = if is_kept_name text.0 then option_map (λ number. ((text.0, number.0), number.1)) (number_at text.1) else None
 
 -- the change at the front, and what follows it
 unfoldable pub change_at : List ℕ → Option (Change × List ℕ)

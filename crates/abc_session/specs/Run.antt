@@ -33,7 +33,7 @@ pub record IsComplete (image_bound input_bound : ℕ) (old new : Outside) : Type
   pub read : new.left ≡ []
   pub in_bound : length old.left < input_bound
 
--- the image, the input, what was said and the choices are as before
+-- the image, the input and what was said are as before
 pub record IsUntouched (old new : Outside) : Type 0 where
   pub image : new.image ≡ old.image
   pub left : new.left ≡ old.left

@@ -1,6 +1,6 @@
 //! The reader: the lines of the input, one after the other.
-ghost use Rattle.std.specs.Prelude.{◌≡◌, ◌⊎◌, ◌≤◌, ◌<◌, ◌+◌, ◌-◌, ◌^◌, min, ◌++◌, ◌∷◌, [], List, ℕ, false, true, length, take, drop, IfOk, IfErr, OnOk, OnErr, IsErrOf, IsTrue, MatchOption, IsSome, IsNone, IfSome};
-ghost use Rattle.abc_outside.specs.Outside.{Outside, Rose, KeepsButInput};
+ghost use Rattle.std.specs.Prelude.{◌≡◌, ◌⊎◌, ◌≤◌, ◌<◌, ◌+◌, ◌-◌, ◌^◌, min, ◌++◌, ◌∷◌, [], List, ℕ, false, true, length, take, IfOk, IfErr, OnOk, OnErr, IsErrOf, MatchOption, IsSome, IsNone, IfSome};
+ghost use Rattle.abc_outside.specs.Outside.{Rose, KeepsButInput};
 ghost use Rattle.abc_outside.specs.Stop.{Leaves};
 
 use crate::line::Line;
@@ -87,7 +87,7 @@ fn read_piece<H: Host>(host: &mut H, piece: &mut [u8], most: u64) -> Result<usiz
 }
 
 impl Reader {
-    ghost use Rattle.abc_session.specs.Reading.{shown, pending_of, used_of, bytes_left, lines_left, TookPart, UsesLine, WantsMore, AsksMore};
+    ghost use Rattle.abc_session.specs.Reading.{shown, pending_of, used_of, lines_left, TookPart, UsesLine, WantsMore, AsksMore};
 
     pub(crate) fn new(alloc: Global, bound: u64) -> Reader
         ensures taken { result.taken ≡ 0 }

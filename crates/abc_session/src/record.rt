@@ -1,11 +1,12 @@
 //! The records of the store: a change as bytes, and bytes as changes.
-ghost use Rattle.std.specs.Prelude.{◌≡◌, ◌≤◌, ◌<◌, ◌^◌, length, take, ◌++◌, None, Some, IfOk, OnOk, IfSome, if◌then◌else◌};
-ghost use Rattle.abc_session.specs.Record.{in_four, in_eight, four_at, eight_at, spelled, spelled_text, spelled_number, text_at, number_at, change_at, applied};
+ghost use Rattle.std.specs.Prelude.{◌≡◌, ◌≤◌, ◌<◌, ◌^◌, length, ◌++◌, None, Some, IfOk, OnOk, IfSome, if◌then◌else◌};
+ghost use Rattle.abc_session.specs.Record.{in_four, in_eight, four_at, eight_at, is_kept_name, spelled, spelled_text, spelled_number, text_at, number_at, change_at, applied};
 ghost use Rattle.abc_session.specs.Targets.{IsNumber};
 ghost use Rattle.abc_session.specs.RecordView.{texts_of, number_and_rest, change_and_rest};
 
 use crate::command::is_name;
 use crate::targets::Targets;
+use abc_num::limits::MOST_LINE_BYTES;
 use std::alloc::{AllocError, Global};
 
 /// The change that gives a target its value.
@@ -125,6 +126,13 @@ struct Change<'a> {
     value: i128,
 }
 
+/// One or more letters, and no more than a line has bytes.
+fn is_kept_name(name: &[u8]) -> bool
+    ensures { result ≡ is_kept_name name.now }
+{
+    is_name(name) && name.len() <= MOST_LINE_BYTES
+}
+
 /// The change at the front, and what follows it.
 #[tactic(auto, unfolding(crate::specs::Record::change_at))]
 fn read_change(bytes: &[u8]) -> Option<(Change<'_>, &[u8])>
@@ -136,7 +144,7 @@ fn read_change(bytes: &[u8]) -> Option<(Change<'_>, &[u8])>
         return None;
     }
     let (name, bytes) = read_text(bytes)?;
-    if !is_name(name) {
+    if !is_kept_name(name) {
         return None;
     }
     let (value, rest) = read_number(bytes)?;

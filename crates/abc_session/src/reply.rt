@@ -1,5 +1,5 @@
 //! The replies.
-ghost use Rattle.std.specs.Prelude.{◌≡◌, IfOk, string_bytes};
+ghost use Rattle.std.specs.Prelude.{◌≡◌, IfOk};
 ghost use Rattle.abc_session.specs.Reply as said;
 
 use std::alloc::{AllocError, Global};

@@ -1,6 +1,6 @@
 //! The run: words in, a status out.
-ghost use Rattle.std.specs.Prelude.{◌≡◌, ◌⊎◌, ◌≤◌, ◌<◌, ◌++◌, ◌↔◌, List, ℕ, ℤ, map, length, Ok, Err, None, Some, option_map, IsTrue};
-ghost use Rattle.abc_outside.specs.Outside.{Outside, Rose};
+ghost use Rattle.std.specs.Prelude.{◌≡◌, ◌⊎◌, ◌≤◌, ◌<◌, ◌↔◌, List, ℕ, ℤ, map, length, Ok, Err, None, Some, option_map};
+ghost use Rattle.abc_outside.specs.Outside.{Rose};
 ghost use Rattle.abc_outside.specs.Session.{IsBetween, IsBroken, IsCutShort};
 ghost use Rattle.abc_outside.specs.Stop.{Leaves, IsQuiet, Now};
 ghost use Rattle.abc_journal.specs.Journal.{BeginsQuiet};

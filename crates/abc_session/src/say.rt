@@ -1,6 +1,6 @@
 //! The saying of a reply.
 ghost use Rattle.std.specs.Prelude.{◌≡◌, ◌≤◌, ◌<◌, ◌++◌, List, ℕ, length, take, OnOk, OnErr};
-ghost use Rattle.abc_outside.specs.Outside.{Outside, Rose, KeepsButSaid};
+ghost use Rattle.abc_outside.specs.Outside.{Rose, KeepsButSaid};
 ghost use Rattle.abc_outside.specs.Stop.{Leaves};
 
 use abc_outside::{Failed, Host};

@@ -1,13 +1,13 @@
 //! The serving of one item.
-ghost use Rattle.std.specs.Prelude.{◌≡◌, ◌≤◌, ◌<◌, ◌^◌, ◌⊎◌, ◌++◌, true, false, List, ℕ, ℤ, length, take, IfOk, IfErr, OnOk, IsOk, OnErr, IsErrOf, IsTrue, Ok, Some, None};
-ghost use Rattle.abc_outside.specs.Outside.{Outside, Rose, KeepsButStore};
+ghost use Rattle.std.specs.Prelude.{◌≡◌, ◌≤◌, ◌<◌, ◌⊎◌, ◌++◌, true, List, ℕ, ℤ, length, take, IfOk, IfErr, OnOk, IsOk, IsErrOf, IsTrue, Ok, Some, None};
+ghost use Rattle.abc_outside.specs.Outside.{Rose, KeepsButStore};
 ghost use Rattle.abc_outside.specs.Stop.{Leaves, IsQuiet};
-ghost use Rattle.abc_session.specs.Command.{Form, form_of, put, write, is_some_of, is_letter};
+ghost use Rattle.abc_session.specs.Command.{form_of, put, write, is_some_of, is_letter};
 ghost use Rattle.abc_session.specs.CommandView.{form_of_command, source_of, HasNumber, IsFit};
 ghost use Rattle.abc_session.specs.Reading.{shown};
 ghost use Rattle.abc_session.specs.Reply.{missing_reply};
 ghost use Rattle.abc_session.specs.Targets.{IsNumber};
-ghost use Rattle.abc_session.specs.Session.{Work, Outcome, outcome, outcome_of, with_source, put_outcome};
+ghost use Rattle.abc_session.specs.Session.{Outcome, outcome, outcome_of, with_source, put_outcome};
 ghost use Rattle.abc_session.specs.Serving.{work_of, Holds, OpensTo, IsItemStop, KeepsInput};
 ghost use Rattle.abc_outside.specs.Session.{IsInCommit};
 
@@ -92,7 +92,7 @@ fn put_value<H: Host>(
 ) -> Result<Vec<u8>, ServeStop>
     requires sound { IsTrue store.old.journal.sound }
     requires holds { H.tells_image → Holds (H.now host.old).image (work_of store.old) }
-    requires short { length name.now < 2 ^ 32 }
+    requires short { length name.now ≤ MOST_LINE_BYTES }
     requires name { is_some_of is_letter name.now ≡ true }
     requires value { IsNumber value }
 

@@ -1,6 +1,6 @@
 //! The session: items one after the other, to the end of the input.
-ghost use Rattle.std.specs.Prelude.{◌≡◌, ◌≤◌, ◌<◌, ◌^◌, ◌⊎◌, ◌++◌, suc, [], true, false, List, ℕ, length, take, ◌+◌, Ok, IfOk, OnOk, OnErr, IsOk, IsErrOf, IsTrue, if◌then◌else◌};
-ghost use Rattle.abc_outside.specs.Outside.{Outside, Rose};
+ghost use Rattle.std.specs.Prelude.{◌≡◌, ◌≤◌, ◌<◌, ◌⊎◌, ◌++◌, suc, [], true, false, List, ℕ, length, ◌+◌, Ok, IfOk, OnOk, IsErrOf, IsTrue, if◌then◌else◌};
+ghost use Rattle.abc_outside.specs.Outside.{Rose};
 ghost use Rattle.abc_outside.specs.Stop.{Leaves, IsQuiet};
 ghost use Rattle.abc_outside.specs.Session.{joined, HasServed};
 ghost use Rattle.abc_session.specs.Lines.{items_of, lines_of};

@@ -1,9 +1,10 @@
 //! The store of a session: the workspace, and the journal that keeps it.
-ghost use Rattle.std.specs.Prelude.{◌≡◌, ◌≤◌, ◌<◌, ◌^◌, ◌⊎◌, ◌++◌, ◌∷◌, [], List, ℕ, ℤ, true, length, IfOk, OnOk, IsOk, OnErr, IsErrOf, IsTrue, Ok, Err, None, Some, MatchOption, Result};
-ghost use Rattle.abc_outside.specs.Outside.{Outside, Rose, KeepsButStore};
+ghost use Rattle.std.specs.Prelude.{◌≡◌, ◌≤◌, ◌<◌, ◌⊎◌, [], List, ℕ, ℤ, true, length, IfOk, OnOk, IsOk, IsErrOf, IsTrue, Ok, Err, None, Some, MatchOption, Result};
+ghost use Rattle.abc_num.specs.declared.limits.TheConstants.{MOST_LINE_BYTES};
+ghost use Rattle.abc_outside.specs.Outside.{Rose, KeepsButStore};
 ghost use Rattle.abc_outside.specs.Stop.{Leaves, IsQuiet};
 ghost use Rattle.abc_journal.specs.Image.{settled_image};
-ghost use Rattle.abc_journal.specs.Journal.{HasLayout, BeginsQuiet};
+ghost use Rattle.abc_journal.specs.Journal.{BeginsQuiet};
 ghost use Rattle.abc_session.specs.Command.{is_some_of, is_letter};
 ghost use Rattle.abc_session.specs.Targets.{IsNumber};
 ghost use Rattle.abc_session.specs.Workspace.{opens, targets_from};
@@ -75,7 +76,7 @@ fn replay(alloc: Global, payloads: &[Text]) -> Result<Option<Targets>, AllocErro
 
 impl Store {
     ghost use Rattle.abc_session.specs.Serving.{work_of, Holds, OpensTo};
-    ghost use Rattle.abc_session.specs.Session.{Work, stored};
+    ghost use Rattle.abc_session.specs.Session.{stored};
     ghost use Rattle.abc_session.specs.Record.{spelled};
     ghost use Rattle.abc_journal.specs.Journal.{need_of};
 
@@ -121,7 +122,7 @@ impl Store {
     ) -> Result<(), PutFault>
         requires sound { IsTrue self.old.journal.sound }
         requires holds { H.tells_image → Holds (H.now host.old).image (work_of self.old) }
-        requires short { length name.now < 2 ^ 32 }
+        requires short { length name.now ≤ MOST_LINE_BYTES }
         requires name { is_some_of is_letter name.now ≡ true }
         requires value { IsNumber value }
 

@@ -385,17 +385,38 @@ const PAYLOADS: [Payload; 8] = [
     },
 ];
 
+/// A store whose only record has this payload.
+fn store_of_payload(alloc: Global, payload: &[u8]) -> Result<Vec<u8>, AllocError> {
+    let mut image = store_of(alloc, &[1])?;
+    image.extend_from_slice(&(payload.len() as u64).to_be_bytes())?;
+    image.extend_from_slice(payload)?;
+    image.push(0)?;
+    Ok(image)
+}
+
 #[test]
 fn a_payload_is_spelled_or_the_image_is_no_store(rt: HostRuntime) -> Result<(), Fail> {
     let alloc = rt.alloc();
     for row in &PAYLOADS {
-        let mut image = store_of(alloc, &[1])?;
-        image.extend_from_slice(&(row.bytes.len() as u64).to_be_bytes())?;
-        image.extend_from_slice(row.bytes)?;
-        image.push(0)?;
+        let image = store_of_payload(alloc, row.bytes)?;
         let mut host = host_of(alloc, &image, "")?;
         assert_eq!(rt; run(alloc, &WORDS, &mut host), row.status, "{}", row.name);
         assert_eq!(rt; host.image(), image.as_slice(), "{}", row.name);
+    }
+    Ok(())
+}
+
+#[test]
+fn a_kept_name_is_no_longer_than_a_line(rt: HostRuntime) -> Result<(), Fail> {
+    let alloc = rt.alloc();
+    for (length, status) in [(4_096_u32, COMPLETE), (4_097, NOT_A_STORE)] {
+        let mut payload = [0, 0, 0, 1, 1].to_vec(alloc)?;
+        payload.extend_from_slice(&length.to_be_bytes())?;
+        payload.resize(9 + length as usize, b'a')?;
+        payload.resize(26 + length as usize, 0)?;
+        let image = store_of_payload(alloc, &payload)?;
+        let mut host = host_of(alloc, &image, "")?;
+        assert_eq!(rt; run(alloc, &WORDS, &mut host), status);
     }
     Ok(())
 }

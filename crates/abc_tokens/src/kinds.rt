@@ -1,5 +1,4 @@
 //! What tokens and lines are.
-use abc_num::OutOfMemory;
 use std::alloc::{AllocError, AllocFailed};
 
 /// The classes of tokens.

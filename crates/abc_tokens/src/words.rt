@@ -1,5 +1,5 @@
 //! Names, keywords, numbers and signs. Each is as long as possible.
-ghost use Rattle.std.specs.Prelude.{◌≡◌, ◌≤◌, ◌+◌, ◌<◌, length, drop, take, IsTrue, Some, [], ◌∷◌};
+ghost use Rattle.std.specs.Prelude.{◌≡◌, ◌≤◌, ◌+◌, ◌<◌, length, take, IsTrue, Some, [], ◌∷◌};
 ghost use Rattle.abc_num.specs.Literal.{IsNumberToken};
 ghost use Rattle.abc_tokens.specs.Bytes.{begins, is_digit};
 ghost use Rattle.abc_tokens.specs.Scanned.{letter, continues, tail_length, digits, begins_decimals, decimals, number_length, is_double, is_single, word_in_front};

@@ -1,7 +1,6 @@
 //! Templates: how a unit is called, with its words in order and a place for each actual.
-ghost use Rattle.std.specs.Prelude.{◌≡◌, ◌∷◌, ◌++◌, [], map, MatchOption, IfOk};
-ghost use Rattle.abc_num.specs.Text.{text_cmp};
-ghost use Rattle.abc_tree.specs.Templates.{written, with_kind, spaced, behind, template_text, template_cmp};
+ghost use Rattle.std.specs.Prelude.{◌≡◌, ◌∷◌, [], map, MatchOption, IfOk};
+ghost use Rattle.abc_tree.specs.Templates.{written, spaced, behind, template_text, template_cmp};
 
 use abc_num::{Items, OutOfMemory, Text};
 use std::alloc::Global;

@@ -2,7 +2,6 @@
 use super::*;
 use abc_num::{Boxed, ItemLines, Items, Names, OutOfMemory, Text};
 use std::alloc::Global;
-use std::cmp::Ordering;
 use std::test::Fail;
 
 /// A template by its words; `_` is a place.

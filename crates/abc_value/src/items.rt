@@ -1,10 +1,10 @@
 //! Elements by their number, and ranges of elements.
-ghost use Rattle.std.specs.Prelude.{◌≡◌, ◌≤◌, ◌<◌, ◌+◌, ◌-◌, ◌^◌, ◌∷◌, [], length, ℤ, pos, ◌+ℤ◌, ◌-ℤ◌, ◌≤ℤ◌, unsigned_abs, IfOk, Some, None};
+ghost use Rattle.std.specs.Prelude.{◌≡◌, ◌<◌, ◌+◌, ◌-◌, ◌^◌, length, ℤ, pos, ◌+ℤ◌, ◌-ℤ◌, unsigned_abs, IfOk, Some, None};
 ghost use Rattle.abc_num.specs.Number.{whole_of, whole_number};
-ghost use Rattle.abc_value.specs.Tree.{number, text, list, trees, empty};
+ghost use Rattle.abc_value.specs.Tree.{number, text, list, trees};
 ghost use Rattle.abc_value.specs.Sizes.{IsMakingOf};
 ghost use Rattle.abc_value.specs.Regular.{IsOrdered, AreCharacters};
-ghost use Rattle.abc_value.specs.Items.{IsAnswer, IsTrain, HaveRange, item_of, range_of, if_small, numbers_from, characters_from, place_in, count_of, number_range, character_range};
+ghost use Rattle.abc_value.specs.Items.{IsAnswer, IsTrain, HaveRange, item_of, range_of, place_in, count_of, number_range, character_range};
 
 use crate::sizes::{check_sizes, tallest, total_weight};
 use crate::value::Node;

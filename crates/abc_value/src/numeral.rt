@@ -1,5 +1,5 @@
 //! The printed form of a number.
-ghost use Rattle.std.specs.Prelude.{◌≡◌, ◌≤◌, ◌<◌, ◌^◌, ◌*◌, ◌%◌, ◌++◌, IfOk, IfErr, OnOk, unsigned_abs, decimal};
+ghost use Rattle.std.specs.Prelude.{◌≡◌, ◌<◌, ◌^◌, ◌*◌, ◌%◌, ◌++◌, IfOk, IfErr, OnOk, unsigned_abs, decimal};
 ghost use Rattle.abc_value.specs.Printed.{number_text, places, decimals, sign};
 
 use crate::PrintFault;

@@ -1,5 +1,5 @@
 //! The printed forms of values.
-ghost use Rattle.std.specs.Prelude.{◌≡◌, ◌≤◌, ◌<◌, ◌++◌, length, map, codes, IfOk, IsErrOf};
+ghost use Rattle.std.specs.Prelude.{◌≡◌, ◌≤◌, ◌<◌, length, map, codes, IfOk, IsErrOf};
 ghost use Rattle.std.specs.List.{flat_map};
 ghost use Rattle.abc_value.specs.Tree.{trees, pairs};
 ghost use Rattle.abc_value.specs.Printed.{number_text, quoted, doubled, joined, pair_display, display, displays, pair_displays, plain, plains, outer};

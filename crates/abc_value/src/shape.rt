@@ -1,7 +1,6 @@
 //! What is known of the types that values have: the test of 'some types fit these values'.
 ghost use Rattle.std.specs.Prelude.{◌≡◌, IfOk};
-ghost use Rattle.std.specs.Option.{option_map};
-ghost use Rattle.abc_value.specs.Forms.{anything, a_number, a_text, a_collection, a_compound, a_list, a_table, forms, join, join_each, elements_form};
+ghost use Rattle.abc_value.specs.Forms.{anything, a_number, a_text, a_collection, a_compound, a_list, a_table, forms, elements_form};
 
 use abc_num::OutOfMemory;
 use std::alloc::Global;

@@ -1,14 +1,10 @@
 //! The value itself: its kind, its sizes and its parts.
-ghost use Rattle.std.specs.Prelude.{◌≡◌, ◌≤◌, length, IfOk, slice_get};
-ghost use Rattle.std.specs.Option.{option_map};
-ghost use Rattle.abc_value.specs.Tree.{number, text, list, no_trees, empty};
-ghost use Rattle.abc_value.specs.Sizes.{length_of, height_of, weight_of, IsMakingOf, sizes_fault};
-ghost use Rattle.abc_value.specs.Regular.{IsRegular, AreCharacters};
-ghost use Rattle.abc_value.specs.Parts.{kind_of, number_of, codes_of, parts_of, keys_of};
+ghost use Rattle.std.specs.Prelude.{◌≡◌};
+ghost use Rattle.abc_value.specs.Tree.{number, text, list, empty};
+ghost use Rattle.abc_value.specs.Sizes.{height_of, weight_of};
+ghost use Rattle.abc_value.specs.Regular.{IsRegular};
 
-use crate::ValueFault;
 use abc_num::Num;
-use abc_num::limits::{MOST_ELEMENTS, MOST_VALUE_HEIGHT, MOST_WEIGHT};
 use std::alloc::Global;
 use std::collections::VecDeque;
 use std::marker::Model;

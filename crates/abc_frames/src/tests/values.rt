@@ -1,13 +1,13 @@
 //! Worked values, and that ample memory is enough for the calls on them. They stand here and not in abc_value, where each drop
 //! of a value is taken apart in the proof of a test.
-ghost use Rattle.std.specs.Prelude.{◌≡◌, IfOk};
+ghost use Rattle.std.specs.Prelude.{IfOk};
 ghost use Rattle.abc_value.specs.Parts.{IsList, IsTable};
 
 mod calls;
 mod shapes;
 mod speed;
 
-use super::{is_whole, whole};
+use super::whole;
 use abc_num::Num;
 use abc_value::*;
 use std::alloc::Global;

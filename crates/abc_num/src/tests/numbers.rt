@@ -5,7 +5,6 @@ ghost use Rattle.abc_num.specs.Literal.{IsDigit, IsNumberToken};
 
 use crate::NumFault::{DivisionByZero, Overflow};
 use crate::*;
-use std::cmp::Ordering;
 
 /// The greatest whole number.
 pub(super) const MOST: i128 = i128::MAX;

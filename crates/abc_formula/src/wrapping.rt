@@ -1,0 +1,37 @@
+//! The test that waiting frames make of the one behind them.
+ghost use Rattle.std.specs.Prelude.{◌≡◌, IfOk};
+ghost use Rattle.abc_formula.specs.TestSteps.{fold_test, wrapped_by};
+
+use crate::test_frames::TestFrame;
+use abc_num::{Boxed, OutOfMemory, Stack};
+use abc_tree::Test;
+use std::alloc::Global;
+
+/// The test that the frames make of the last one.
+pub(crate) fn wrapped_by_all(
+    alloc: Global,
+    frames: &mut Stack<TestFrame>,
+    last: Test,
+) -> Result<Test, OutOfMemory>
+    ensures { IfOk result (λ a. a ≡ fold_test frames.old last) }
+{
+    let mut test = last;
+    while let Some(frame) = frames.pop() {
+        test = wrapped_by(alloc, frame, test)?;
+    }
+    Ok(test)
+}
+
+/// The test that a frame makes of the one behind it.
+fn wrapped_by(alloc: Global, frame: TestFrame, test: Test) -> Result<Test, OutOfMemory>
+    ensures { IfOk result (λ a. a ≡ wrapped_by frame test) }
+{
+    match frame {
+        TestFrame::Not => Ok(Test::Not(Boxed::new(alloc, test)?)),
+        TestFrame::And(first) => Ok(Test::And(Boxed::new(alloc, first)?, Boxed::new(alloc, test)?)),
+        TestFrame::Or(first) => Ok(Test::Or(Boxed::new(alloc, first)?, Boxed::new(alloc, test)?)),
+        TestFrame::Quantified(quantifier, names, train) => {
+            Ok(Test::Quantified(quantifier, names, train, Boxed::new(alloc, test)?))
+        }
+    }
+}
