@@ -54,6 +54,8 @@ impl Journal {
         ensures rest { KeepsButStore (H.now host.old) (H.now host.new) }
         ensures unchanged { (IsNotAStore result ⊎ IsErrOf result BeginFault.Memory) → (H.now host.new).image ≡ (H.now host.old).image }
         ensures long { H.tells_image → FRESH_BYTES < length (H.now host.old).image → (H.now host.new).image ≡ (H.now host.old).image }
+        ensures long_stops { H.tells_image → FRESH_BYTES < length (H.now host.old).image
+            → Leaves H.clock H.stopped host.old host.new (H.stopped host.old (H.clock host.old)) }
         ensures untouched { (IsNotAStore result ⊎ IsErrOf result BeginFault.Memory)
             → Leaves H.clock H.stopped host.old host.new (H.stopped host.old (H.clock host.old)) }
 

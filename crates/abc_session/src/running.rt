@@ -41,6 +41,7 @@ fn run_store<H: Host>(alloc: Global, host: &mut H, b: &Bounds) -> u8
     ensures sink_fault { result ≡ SINK_FAULT → Rose (H.now host.old).sink_faults (H.now host.new).sink_faults }
     ensures not_a_store { H.tells_image → result ≡ NOT_A_STORE → (at : ℕ) × (opens (H.now host.old).image ≡ Err at) }
     ensures untouched { H.tells_image → (at : ℕ) → opens (H.now host.old).image ≡ Err at → IsUntouched (H.now host.old) (H.now host.new) }
+    ensures untouched_stops { H.tells_image → (at : ℕ) → opens (H.now host.old).image ≡ Err at → Leaves H.clock H.stopped host.old host.new (H.stopped host.old (H.clock host.old)) }
     ensures refused { H.tells_image → (at : ℕ) → opens (H.now host.old).image ≡ Err at → (result ≡ NOT_A_STORE) ⊎ (result ≡ STORE_FAULT) ⊎ (result ≡ MEMORY) }
     ensures too_long { result ≡ INPUT_TOO_LONG → (H.now host.new).taken ≡ b.now.input }
     ensures too_long_input { H.tells_input → result ≡ INPUT_TOO_LONG → b.now.input ≤ length (H.now host.old).left }
@@ -111,6 +112,8 @@ pub fn run_within<H: Host>(alloc: Global, words: &[&str], host: &mut H, b: &Boun
     // What stays, and what was chosen.
     ensures usage_nothing { result ≡ USAGE → host.new ≡ host.old }
     ensures untouched { H.tells_image → (at : ℕ) → opens (H.now host.old).image ≡ Err at → IsUntouched (H.now host.old) (H.now host.new) }
+    ensures untouched_stops { H.tells_image → IsStill H.clock H.stopped host.old (H.now host.old).image → (at : ℕ) → opens (H.now host.old).image ≡ Err at
+        → (c s : List ℕ) → H.stopped host.new (H.clock host.old) c s → c ≡ (H.now host.old).image }
     ensures chosen { H.tells_chosen → (store : List ℕ) → store_named (map (λ word. word.now) words.now) ≡ Some store
         → ((H.now host.new).chosen ≡ chose store (H.now host.old).chosen) ⊎ (((H.now host.new).chosen ≡ (H.now host.old).chosen) × ((result ≡ INPUT_FAULT) ⊎ (result ≡ STORE_FAULT) ⊎ (result ≡ MEMORY))) }
     ensures none_fell { NoneFell (H.now host.old) (H.now host.new) }
@@ -174,6 +177,8 @@ pub fn run<H: Host>(alloc: Global, words: &[&str], host: &mut H) -> u8
     // What stays, and what was chosen.
     ensures usage_nothing { result ≡ USAGE → host.new ≡ host.old }
     ensures untouched { H.tells_image → (at : ℕ) → opens (H.now host.old).image ≡ Err at → IsUntouched (H.now host.old) (H.now host.new) }
+    ensures untouched_stops { H.tells_image → IsStill H.clock H.stopped host.old (H.now host.old).image → (at : ℕ) → opens (H.now host.old).image ≡ Err at
+        → (c s : List ℕ) → H.stopped host.new (H.clock host.old) c s → c ≡ (H.now host.old).image }
     ensures chosen { H.tells_chosen → (store : List ℕ) → store_named (map (λ word. word.now) words.now) ≡ Some store
         → ((H.now host.new).chosen ≡ chose store (H.now host.old).chosen) ⊎ (((H.now host.new).chosen ≡ (H.now host.old).chosen) × ((result ≡ INPUT_FAULT) ⊎ (result ≡ STORE_FAULT) ⊎ (result ≡ MEMORY))) }
     ensures none_fell { NoneFell (H.now host.old) (H.now host.new) }

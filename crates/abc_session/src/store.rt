@@ -90,6 +90,8 @@ impl Store {
 
         ensures refused { H.tells_image → IsErrOf result OpenFault.NotAStore → (at : ℕ) × (opens (H.now host.old).image ≡ Err at) }
         ensures unchanged { H.tells_image → (at : ℕ) → opens (H.now host.old).image ≡ Err at → (H.now host.new).image ≡ (H.now host.old).image }
+        ensures untouched { H.tells_image → (at : ℕ) → opens (H.now host.old).image ≡ Err at
+            → Leaves H.clock H.stopped host.old host.new (H.stopped host.old (H.clock host.old)) }
         ensures fault { IsErrOf result OpenFault.StoreFault → Rose (H.now host.old).store_faults (H.now host.new).store_faults }
         ensures rest { KeepsButStore (H.now host.old) (H.now host.new) }
 

@@ -63,3 +63,15 @@ returns-in_err-targets-clause-unchanged g c told at is = c.begin.ensures.long to
 
 pub returns-in-Some-clause-unchanged : goal.returns-in-Some-clause-unchanged
 returns-in-Some-clause-unchanged g c told at is = c.begin.ensures.long told (long_image (g.H.Host.now c.args.host.now).image at is)
+
+pub returns-clause-untouched : goal.returns-clause-untouched
+returns-clause-untouched g c told at is = c.begin.ensures.long_stops told (long_image (g.H.Host.now c.args.host.now).image at is)
+
+pub returns-in-Err-StoreFault-clause-untouched : goal.returns-in-Err-StoreFault-clause-untouched
+returns-in-Err-StoreFault-clause-untouched g c told at is = c.begin.ensures.long_stops told (long_image (g.H.Host.now c.args.host.now).image at is)
+
+pub returns-in_err-targets-clause-untouched : goal.returns-in_err-targets-clause-untouched
+returns-in_err-targets-clause-untouched g c told at is = c.begin.ensures.long_stops told (long_image (g.H.Host.now c.args.host.now).image at is)
+
+pub returns-in-Some-clause-untouched : goal.returns-in-Some-clause-untouched
+returns-in-Some-clause-untouched g c told at is = c.begin.ensures.long_stops told (long_image (g.H.Host.now c.args.host.now).image at is)
