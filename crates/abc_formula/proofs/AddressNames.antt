@@ -17,7 +17,7 @@ use Rattle.abc_formula.specs.declared.signs.Sign.TheVariants as s
 use Rattle.abc_formula.specs.Lexemes.{ArePart}
 use Rattle.abc_formula.specs.Addresses.{opened_by, is_bracket, in_key, names_outside, each_once, names_of_address}
 use Rattle.abc_formula.specs.AddressSteps.{depth_behind, names_from}
-use Rattle.abc_formula.proofs.TokenParts.{closes_ends}
+use Rattle.abc_tokens.proofs.TextLaws.{closes_ends}
 
 -- ---- the count that stands for the open brackets
 

@@ -8,43 +8,15 @@ use Rattle.abc_tokens.specs.declared.kinds.TokenFault.{TokenFault}
 use Rattle.abc_tokens.specs.declared.kinds.TokenFault.TheVariants.{BadByte, OpenText, BadNumber, Memory}
 use Rattle.abc_tokens.specs.declared.kinds.TokenKind.{TokenKind}
 use Rattle.abc_tokens.specs.declared.kinds.TokenKind.TheVariants as kind
-use Rattle.abc_tokens.specs.Bytes.{space, backquote}
+use Rattle.abc_tokens.specs.Bytes.{space}
 use Rattle.abc_tokens.specs.Words as words
-use Rattle.abc_tokens.specs.Texts as texts
-use Rattle.abc_tokens.specs.Texts.{Closes, Converts}
 use Rattle.abc_tokens.specs.Tokens as tk
 use Rattle.abc_tokens.specs.Tokens.{Tokens, AreTokens, HasFault, IsSound, IsBadNumber, place, token}
+use Rattle.abc_tokens.proofs.TextLaws.{Ends, ends_more, closes_ends}
 use Rattle.abc_formula.specs.declared.lexemes.Lexeme.{Lexeme}
 use Rattle.abc_formula.specs.Lexemes.{seen, lexeme_of, ArePart, IsWithin, IsSpelled}
 use Rattle.abc_formula.specs.Machine.{ReadsTokens, lexed}
 use Rattle.abc_formula.proofs.Leaves.{lexed_told}
-
--- what is left behind a text is the end of its bytes
-abbrev pub Ends : List ℕ → List ℕ → Type 0
-Ends bytes rest = (k : ℕ) × (k ≤ length bytes) × (drop k bytes ≡ rest)
-
-ends_more : (b : ℕ) (bytes rest : List ℕ) → Ends bytes rest → Ends (b ∷ bytes) rest
-ends_more b bytes rest (k, l, e) = (suc k, omega arith, e)
-
-ends_on : (bytes more rest : List ℕ) → Ends bytes more → Ends more rest → Ends bytes rest
-ends_on bytes more rest (k, l, e) (j, m, f) =
-    let size : length bytes - k ≡ length more = sym (length-drop k bytes) ∙ ap length e in
-    (k + j, omega arith, sym (drop-drop j k bytes) ∙ ap (drop j) e ∙ f)
-
-mutual
-  pub closes_ends : {q : ℕ} {bytes rest : List ℕ} {ns : List (List ℕ)} → Closes q bytes rest ns → Ends bytes rest
-  closes_ends (texts.closing {q = q} {rest = rest} h) = (1, omega arith, refl)
-  closes_ends (texts.doubled_quote {q = q} {bytes = bytes} {rest = rest} d) = ends_more q (q ∷ bytes) rest (ends_more q bytes rest (closes_ends d))
-  closes_ends (texts.doubled_backquote {bytes = bytes} {rest = rest} d) = ends_more backquote (backquote ∷ bytes) rest (ends_more backquote bytes rest (closes_ends d))
-  closes_ends (texts.character {c = c} {bytes = bytes} {rest = rest} n m d) = ends_more c bytes rest (closes_ends d)
-  closes_ends (texts.conversion {bytes = bytes} {more = more} {rest = rest} h v d) = ends_more backquote bytes rest (ends_on bytes more rest (converts_ends v) (closes_ends d))
-
-  converts_ends : {bytes rest : List ℕ} {ns : List (List ℕ)} → Converts bytes rest ns → Ends bytes rest
-  converts_ends (texts.finish {rest = rest}) = (1, omega arith, refl)
-  converts_ends (texts.blank {bytes = bytes} {rest = rest} d) = ends_more space bytes rest (converts_ends d)
-  converts_ends (texts.word {n = n} {bytes = bytes} {rest = rest} l d) = ends_on bytes (drop n bytes) rest (n, l.within, refl) (converts_ends d)
-  converts_ends (texts.text {q = q} {bytes = bytes} {more = more} {rest = rest} u c d) = ends_more q bytes rest (ends_on bytes more rest (closes_ends c) (converts_ends d))
-  converts_ends (texts.other {b = b} {bytes = bytes} {rest = rest} s c k u n d) = ends_more b bytes rest (converts_ends d)
 
 all_cons : {X : Type 0} (P : X → Type 0) (x : X) (xs : List X) → P x → All P xs → All P (x ∷ xs)
 all_cons P x xs p q zero d l = p

@@ -3,6 +3,7 @@ use Rattle.std.proofs.Common.{◌≡◌, ℕ, zero, suc, ◌+◌, ◌-◌, ◌<�
 use Rattle.std.specs.Prelude.{All, Any, ◌↔◌, slice_range, ◌&&◌, ◌==◌, if◌then◌else◌}
 use Rattle.std.specs.List.{list_all, AllByRecursion}
 use Rattle.std.proofs.lemmas.Bool.Decides.{nat_tests}
+use Rattle.std.proofs.lemmas.List.{drop-drop}
 use Rattle.abc_num.specs.Literal.{IsNumberToken}
 use Rattle.abc_value.specs.Regular.{IsCharacter, AreCharacters}
 use Rattle.abc_tokens.specs.declared.kinds.Token.{Token}
@@ -12,12 +13,10 @@ use Rattle.abc_tokens.specs.declared.kinds.TokenFault.{TokenFault}
 use Rattle.abc_tokens.specs.declared.kinds.TokenFault.TheVariants as token_fault
 use Rattle.abc_tokens.specs.Bytes.{is_character}
 use Rattle.abc_tokens.specs.Words.{Spells}
-use Rattle.abc_tokens.specs.Bytes.{space, backquote}
-use Rattle.abc_tokens.specs.Texts.{Closes, closing, doubled_quote, doubled_backquote, character, conversion, Converts, finish}
-use Rattle.abc_tokens.specs.Texts as c
 use Rattle.abc_tokens.specs.Shape.{spelling}
 use Rattle.abc_tokens.specs.Scanned.{scanned}
 use Rattle.abc_tokens.specs.Tokens.{place, token, Tokens, none, comment, blank, word, text, other, open_text, HasTokens, IsSound, IsBadNumber, AreTokens, HasFault}
+use Rattle.abc_tokens.proofs.TextLaws.{closes_ends}
 use Rattle.abc_print.specs.declared.lexing.Class.{Class}
 use Rattle.abc_print.specs.declared.lexing.Class.TheVariants as class
 use Rattle.abc_print.specs.Lexemes.{class_of, signs_class, sign_class}
@@ -28,51 +27,12 @@ pub record IsSuffix (line bytes : List ℕ) : Type 0 where
   pub short : length bytes ≤ length line
   pub is : bytes ≡ drop (length line - length bytes) line
 
-drop_nil : (m : ℕ) → drop m (let none : List ℕ = [] in none) ≡ []
-drop_nil zero = refl
-drop_nil (suc m) = refl
-
-drop_drop : (n k : ℕ) (line : List ℕ) → drop n (drop k line) ≡ drop (k + n) line
-drop_drop n zero line = ap (λ z. drop z line) (let e : n ≡ 0 + n = omega arith in e)
-drop_drop n (suc k) [] = drop_nil n ∙ sym (drop_nil (suc k + n))
-drop_drop n (suc k) (x ∷ xs) = drop_drop n k xs ∙ ap (λ z. drop z (x ∷ xs)) (let e : suc (k + n) ≡ suc k + n = omega arith in e)
-
--- what is left behind a text is the end of its bytes
-abbrev Ends : List ℕ → List ℕ → Type 0
-Ends bytes rest = (k : ℕ) × (k ≤ length bytes) × (drop k bytes ≡ rest)
-
-ends_same : (bytes : List ℕ) → Ends bytes bytes
-ends_same bytes = (0, omega arith, refl)
-
-ends_more : (b : ℕ) (bytes rest : List ℕ) → Ends bytes rest → Ends (b ∷ bytes) rest
-ends_more b bytes rest (k, l, e) = (suc k, omega arith, e)
-
-ends_on : (bytes more rest : List ℕ) → Ends bytes more → Ends more rest → Ends bytes rest
-ends_on bytes more rest (k, l, e) (j, m, f) =
-    let size : length bytes - k ≡ length more = sym (length-drop k bytes) ∙ ap length e in
-    (k + j, omega arith, sym (drop_drop j k bytes) ∙ ap (drop j) e ∙ f)
-
-mutual
-  closes_ends : {q : ℕ} {bytes rest : List ℕ} {ns : List (List ℕ)} → Closes q bytes rest ns → Ends bytes rest
-  closes_ends (closing {q = q} {rest = rest} h) = ends_more q rest rest (ends_same rest)
-  closes_ends (doubled_quote {q = q} {bytes = bytes} {rest = rest} d) = ends_more q (q ∷ bytes) rest (ends_more q bytes rest (closes_ends d))
-  closes_ends (doubled_backquote {bytes = bytes} {rest = rest} d) = ends_more backquote (backquote ∷ bytes) rest (ends_more backquote bytes rest (closes_ends d))
-  closes_ends (character {c = c} {bytes = bytes} {rest = rest} n m d) = ends_more c bytes rest (closes_ends d)
-  closes_ends (conversion {bytes = bytes} {more = more} {rest = rest} h v d) = ends_more backquote bytes rest (ends_on bytes more rest (converts_ends v) (closes_ends d))
-
-  converts_ends : {bytes rest : List ℕ} {ns : List (List ℕ)} → Converts bytes rest ns → Ends bytes rest
-  converts_ends (finish {rest = rest}) = ends_more backquote rest rest (ends_same rest)
-  converts_ends (c.blank {bytes = bytes} {rest = rest} d) = ends_more space bytes rest (converts_ends d)
-  converts_ends (c.word {n = n} {bytes = bytes} {rest = rest} l d) = ends_on bytes (drop n bytes) rest (n, l.within, refl) (converts_ends d)
-  converts_ends (c.text {q = q} {bytes = bytes} {more = more} {rest = rest} u h d) = ends_more q bytes rest (ends_on bytes more rest (closes_ends h) (converts_ends d))
-  converts_ends (c.other {b = b} {bytes = bytes} {rest = rest} s h k u n d) = ends_more b bytes rest (converts_ends d)
-
 pub suffix_drop : (line bytes : List ℕ) (n : ℕ) → n ≤ length bytes → IsSuffix line bytes → IsSuffix line (drop n bytes)
 suffix_drop line bytes n h s =
     let size : length (drop n bytes) ≡ length bytes - n = length-drop n bytes in
     let at : length line - length bytes + n ≡ length line - length (drop n bytes) = omega (arith, size, s.short) in record {
       short = omega (arith, size, s.short);
-      is = ap (drop n) s.is ∙ drop_drop n (length line - length bytes) line ∙ ap (λ k. drop k line) at;
+      is = ap (drop n) s.is ∙ drop-drop n (length line - length bytes) line ∙ ap (λ k. drop k line) at;
     }
 
 pub taken : (line bytes : List ℕ) (n : ℕ) → IsSuffix line bytes → spelling line (token kind.Number (place (length line) bytes) (place (length line) bytes + n)) ≡ take n bytes

@@ -6,7 +6,7 @@ mod Judging
 mod TextSteps
 mod TextLoop
 mod TokenSteps
-mod TextLaws
+pub mod TextLaws
 mod TokenLaws
 mod Fronts
 mod EndsSteps

@@ -240,7 +240,7 @@ Ends bytes rest = (k : ℕ) × (k ≤ length bytes) × (drop k bytes ≡ rest)
 ends_same : (bytes : List ℕ) → Ends bytes bytes
 ends_same bytes = (0, omega arith, refl)
 
-ends_more : (b : ℕ) (bytes rest : List ℕ) → Ends bytes rest → Ends (b ∷ bytes) rest
+pub ends_more : (b : ℕ) (bytes rest : List ℕ) → Ends bytes rest → Ends (b ∷ bytes) rest
 ends_more b bytes rest (k, l, e) = (suc k, omega arith, e)
 
 ends_on : (bytes more rest : List ℕ) → Ends bytes more → Ends more rest → Ends bytes rest

@@ -7,7 +7,7 @@ mod calls;
 mod shapes;
 mod speed;
 
-use super::whole;
+use super::{is_whole, whole};
 use abc_num::Num;
 use abc_value::*;
 use std::alloc::Global;
