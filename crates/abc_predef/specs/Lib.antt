@@ -5,6 +5,7 @@ pub mod Operations
 pub mod Order
 pub mod Places
 pub mod Rows
+pub mod Spellings
 pub mod Takes
 pub mod Texts
 pub mod Trains

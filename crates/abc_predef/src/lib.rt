@@ -7,6 +7,7 @@ mod apply;
 mod characters;
 mod collections;
 mod extremes;
+mod laws;
 mod lookup;
 mod numbers;
 mod table;
@@ -14,6 +15,7 @@ mod texts;
 mod trains;
 
 pub use apply::{apply1, apply2, holds2};
+pub use laws::operations_are_spelled;
 pub use lookup::predefined;
 pub use table::{Letter, Operands, ROWS, Row, Rows, TABLE};
 
