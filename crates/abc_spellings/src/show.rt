@@ -220,14 +220,14 @@ fn print_quantifier(rt: &HostRuntime, quantifier: Quantifier, bound: &Bound) -> 
 }
 
 /// A space, and the test.
-#[cycle(test)]
+#[cycle(test_node)]
 fn print_test_part(rt: &HostRuntime, part: &Test) -> Result<(), Fault> {
     print!(rt; " ")?;
     print_test(rt, part)
 }
 
 /// The name and the parts of a node.
-#[cycle(test)]
+#[cycle(test_node)]
 fn print_test_node(rt: &HostRuntime, tree: &Test) -> Result<(), Fault> {
     match tree {
         Test::Chain(first, links) => {
@@ -270,7 +270,7 @@ fn print_test_node(rt: &HostRuntime, tree: &Test) -> Result<(), Fault> {
     }
 }
 
-#[cycle(test)]
+#[cycle(test_node)]
 pub(crate) fn print_test(rt: &HostRuntime, tree: &Test) -> Result<(), Fault> {
     print!(rt; "(")?;
     print_test_node(rt, tree)?;
