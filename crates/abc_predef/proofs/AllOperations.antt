@@ -5,7 +5,8 @@ use Rattle.abc_tree.specs.declared.operations.Op.TheVariants as op
 use Rattle.abc_value.specs.Tree.{Tree}
 use Rattle.abc_predef.specs.declared.table.Letter.TheVariants as letter
 use Rattle.abc_predef.specs.Takes.{GivesValue, IsTest}
-use Rattle.abc_predef.proofs.Signatures.{result_of, value_operands, has_result, has_no_result, no_result, a_result}
+use Rattle.abc_predef.specs.Signatures.{result_of}
+use Rattle.abc_predef.proofs.Signatures.{value_operands, has_result, has_no_result, no_result, a_result}
 
 -- a row of one place is one of these
 pub none_of_one : (o : Op) (x : Tree) → GivesValue o (x ∷ []) → (o ≡ op.Plus → ⊥) → (o ≡ op.Negate → ⊥) → (o ≡ op.Numerator → ⊥) → (o ≡ op.Denominator → ⊥) → (o ≡ op.Size → ⊥) → (o ≡ op.Abs → ⊥) → (o ≡ op.Sign → ⊥) → (o ≡ op.Floor → ⊥) → (o ≡ op.Ceiling → ⊥) → (o ≡ op.Round → ⊥) → (o ≡ op.Keys → ⊥) → (o ≡ op.Least → ⊥) → (o ≡ op.Greatest → ⊥) → (o ≡ op.Lower → ⊥) → (o ≡ op.Upper → ⊥) → (o ≡ op.Stripped → ⊥) → (o ≡ op.Split → ⊥) → ⊥

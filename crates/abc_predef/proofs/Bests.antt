@@ -1,5 +1,5 @@
 -- The best of some values, one after the other.
-use Rattle.std.proofs.Common.{◌≡◌, ℕ, ◌+◌, ◌<◌, List, [], ◌∷◌, ◌++◌, length, take, refl, sym, ap, ◌∙◌, subst, arith, Option, Some, None, Bool, true, false, cond, Result, inl, inr}
+use Rattle.std.proofs.Common.{◌≡◌, ℕ, ◌+◌, ◌<◌, List, [], ◌∷◌, ◌++◌, length, take, refl, sym, ap, ◌∙◌, subst, Option, Some, None, Bool, true, cond, Result, inl, inr}
 use Rattle.std.specs.Option.{option_map, ok_or}
 use Rattle.std.specs.List.{filter}
 use Rattle.std.proofs.lemmas.List.{take_more}
@@ -31,12 +31,6 @@ append_none : (xs : List Tree) → xs ++ [] ≡ xs
 append_none [] = refl
 append_none (x ∷ xs) = ap (λ ys. x ∷ ys) (append_none xs)
 
--- where the next isn't wanted
-pub best_stays : (end : Extreme) (t : Tree) (xs : List Tree) (f : Tree → Bool) (x : Tree) (best : Option ℕ) → f x ≡ false → IsPlaceOfBest end t xs best → IsPlaceOfBest end t (xs ++ filter f (x ∷ [])) best
-best_stays end t xs f x best e h =
-    let same : xs ++ filter f (x ∷ []) ≡ xs = ap (λ b. xs ++ cond b (x ∷ []) []) e ∙ append_none xs in
-    subst (λ ys. IsPlaceOfBest end t ys best) (sym same) h
-
 -- where the next is wanted, and stands at the place of the better one
 pub best_moves : (end : Extreme) (t : Tree) (xs : List Tree) (f : Tree → Bool) (x : Tree) (best : Option ℕ) (place : ℕ) → f x ≡ true → place < length (elements_of t) → element_at t place ≡ better_with end (option_map (element_at t) best) x → IsPlaceOfBest end t xs best → IsPlaceOfBest end t (xs ++ filter f (x ∷ [])) (Some place)
 best_moves end t xs f x None place e l is h =
@@ -47,10 +41,6 @@ best_moves end t xs f x (Some k) place e l is h =
 -- the elements that are wanted, with one more
 pub wanted_more : (f : Tree → Bool) (t : Tree) (i : ℕ) → i < length (elements_of t) → filter f (take (i + 1) (elements_of t)) ≡ filter f (take i (elements_of t)) ++ filter f (element_at t i ∷ [])
 wanted_more f t i h = ap (filter f) (take_more (elements_of t) i t h) ∙ filter-append f (take i (elements_of t)) (element_at t i ∷ [])
-
-pub place_within : (end : Extreme) (t : Tree) (xs : List Tree) (place : Option ℕ) → IsPlaceOfBest end t xs place → (k : ℕ) → place ≡ Some k → k < length (elements_of t)
-place_within end t xs None h k e = absurd (cc)
-place_within end t xs (Some m) h k e = let s : m ≡ k = cc in omega (arith, s, h.0)
 
 -- where there is no e, all are wanted
 pub all_wanted : (end : Extreme) (xs : List Tree) → filter (is_wanted end None) xs ≡ xs

@@ -1,13 +1,10 @@
 -- The codes of a text.
-use Rattle.std.proofs.Common.{◌≡◌, ℕ, suc, zero, ◌+◌, ◌*◌, ◌≤◌, List, [], ◌∷◌, ◌++◌, length, take, refl, sym, ap, subst, ◌∙◌, arith, slice_get, Some, None, map, drop, reverse, Result, Err, inr, add-one}
+use Rattle.std.proofs.Common.{◌≡◌, ℕ, suc, zero, ◌+◌, ◌*◌, ◌≤◌, List, [], ◌∷◌, ◌++◌, length, take, refl, sym, ap, subst, ◌∙◌, arith, slice_get, Some, None, map, drop, reverse, add-one}
 use Rattle.abc_num.specs.declared.limits.TheConstants.{MOST_ELEMENTS}
-use Rattle.abc_value.specs.declared.faults.ValueFault.{ValueFault}
-use Rattle.abc_value.specs.declared.faults.ValueFault.TheVariants.{Memory}
 use Rattle.abc_value.specs.Tree.{Tree, number, text, compound, list, table}
 use Rattle.abc_value.specs.Sizes.{length_of}
 use Rattle.abc_value.specs.Regular.{IsRegular, AreCharacters}
-use Rattle.abc_value.specs.Parts.{IsText, codes_of}
-use Rattle.abc_value.specs.Items.{IsAnswer}
+use Rattle.abc_value.specs.Parts.{codes_of}
 use Rattle.abc_value.specs.Regular.{IsCharacter}
 use Rattle.std.specs.List.{repeat}
 use Rattle.std.specs.Prelude.{nat_lt, ◌==◌, Bool, true, false, if◌then◌else◌}
@@ -24,17 +21,6 @@ regular_codes (text b) h = (h.1, h.0.0)
 regular_codes (compound ts) h = (tt, omega arith)
 regular_codes (list ts) h = (tt, omega arith)
 regular_codes (table ps) h = (tt, omega arith)
-
-pub text_length : (t : Tree) → IsText t → length_of t ≡ length (codes_of t)
-text_length (number n) h = absurd h
-text_length (text b) h = refl
-text_length (compound ts) h = absurd h
-text_length (list ts) h = absurd h
-text_length (table ps) h = absurd h
-
--- want of memory is an answer to all
-pub memory_answer : (a r : Result Tree ValueFault) (f : ValueFault) → r ≡ Err f → f ≡ Memory → IsAnswer a r
-memory_answer a r f e m = inr (e ∙ ap Err m)
 
 pub take_next : (xs : List ℕ) (n c : ℕ) → slice_get xs n ≡ Some c → take n xs ++ c ∷ [] ≡ take (n + 1) xs
 take_next xs n c e = sym (ap (λ k. take k xs) (add-one n) ∙ at xs n e)

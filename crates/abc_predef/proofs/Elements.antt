@@ -1,18 +1,18 @@
 -- Elements of trains by their place.
 use Rattle.std.proofs.Common.{◌≡◌, ℕ, suc, zero, ◌+◌, ◌<◌, List, [], ◌∷◌, length, get_or, map, refl, sym, ap, ◌∙◌, subst, arith, slice_get, Some, None, add-one, pos, Result, Ok}
 use Rattle.std.proofs.lemmas.List.{length-map}
-use Rattle.std.proofs.lemmas.Option.{slice_get-map, slice_get-get_or, get_or_from_slice_get}
-use Rattle.std.specs.Option.{option_map, ok_or}
+use Rattle.std.proofs.lemmas.Option.{slice_get-get_or, get_or_from_slice_get}
+use Rattle.std.specs.Option.{ok_or}
 use Rattle.abc_value.specs.Tree.{Tree, number, text, compound, list, table, trees, listed, listed_pairs, no_trees, more, no_pairs, pair}
 use Rattle.abc_value.specs.Sizes.{length_of, count, count_pairs}
 use Rattle.abc_value.specs.Regular.{IsRegular, IsOrdered, AllRegular}
-use Rattle.abc_value.specs.Parts.{IsText, IsList, codes_of, parts_of}
+use Rattle.abc_value.specs.Parts.{IsText, IsList, parts_of}
 use Rattle.abc_num.specs.Number.{Fraction, whole_number, whole_of}
 use Rattle.abc_value.specs.declared.faults.ValueFault.{ValueFault}
 use Rattle.abc_value.specs.declared.faults.ValueFault.TheVariants.{OutOfRange}
 use Rattle.abc_value.specs.Items.{IsTrain, IsAnswer, elements_of, item_of}
 use Rattle.abc_value.specs.Items as items
-use Rattle.abc_predef.specs.Places.{IsLike, element_at}
+use Rattle.abc_predef.specs.Places.{element_at}
 
 count_listed : (ts : _) → length (listed ts) ≡ count ts
 count_listed no_trees = refl
@@ -30,33 +30,6 @@ elements_count (compound ts) h = absurd h
 elements_count (list ts) h = sym (count_listed ts)
 elements_count (table ps) h = sym (count_listed_pairs ps)
 
-pub character_is : (t : Tree) (i c : ℕ) → IsText t → slice_get (codes_of t) i ≡ Some c → element_at t i ≡ text (c ∷ [])
-character_is (number n) i c h e = absurd h
-character_is (text b) i c h e =
-    get_or_from_slice_get (map (λ d. text (d ∷ [])) b) i (text (c ∷ [])) (text b) (slice_get-map (λ d. text (d ∷ [])) b i ∙ ap (option_map (λ d. text (d ∷ []))) e)
-character_is (compound ts) i c h e = absurd h
-character_is (list ts) i c h e = absurd h
-character_is (table ps) i c h e = absurd h
-
-pub character_there : (t : Tree) (i : ℕ) → IsText t → i < length (elements_of t) → slice_get (codes_of t) i ≡ None → ⊥
-character_there (number n) i h l e = absurd h
-character_there (text b) i h l e = at b i (omega (arith, length-map b (λ c. text (c ∷ [])))) e
-  where
-    at : (b : List ℕ) (i : ℕ) → i < length b → slice_get b i ≡ None → ⊥
-    at [] i l e = absurd (omega arith)
-    at (c ∷ b) zero l e = cc
-    at (c ∷ b) (suc i) l e = at b i (omega arith) e
-character_there (compound ts) i h l e = absurd h
-character_there (list ts) i h l e = absurd h
-character_there (table ps) i h l e = absurd h
-
-pub part_is : (t : Tree) (i : ℕ) (x : Tree) → IsTrain t → slice_get (parts_of t) i ≡ Some x → element_at t i ≡ x
-part_is (number n) i x h e = absurd h
-part_is (text b) i x h e = absurd (cc)
-part_is (compound ts) i x h e = absurd h
-part_is (list ts) i x h e = get_or_from_slice_get (listed ts) i x (list ts) e
-part_is (table ps) i x h e = get_or_from_slice_get (map (λ p. p.1) (listed_pairs ps)) i x (table ps) e
-
 part_there : (xs : List Tree) (i : ℕ) → i < length xs → slice_get xs i ≡ None → ⊥
 part_there [] i l e = absurd (omega arith)
 part_there (x ∷ xs) zero l e = cc
@@ -69,21 +42,6 @@ is_text (text b) i h l e = tt
 is_text (compound ts) i h l e = h
 is_text (list ts) i h l e = absurd (part_there (listed ts) i l e)
 is_text (table ps) i h l e = absurd (part_there (map (λ p. p.1) (listed_pairs ps)) i l e)
-
--- a train with a part is no text
-pub is_no_text : (t : Tree) (i : ℕ) (x : Tree) → slice_get (parts_of t) i ≡ Some x → IsText t → ⊥
-is_no_text (number n) i x e h = absurd h
-is_no_text (text b) i x e h = absurd (cc)
-is_no_text (compound ts) i x e h = absurd h
-is_no_text (list ts) i x e h = absurd h
-is_no_text (table ps) i x e h = absurd h
-
-pub like_text : (e t : Tree) → IsText t → IsLike e t → IsText e
-like_text e (number n) h l = absurd h
-like_text e (text b) h l = l
-like_text e (compound ts) h l = absurd h
-like_text e (list ts) h l = absurd h
-like_text e (table ps) h l = absurd h
 
 pub list_is_train : (t : Tree) → IsList t → IsTrain t
 list_is_train (number n) h = absurd h

@@ -15,4 +15,6 @@ pub mod Finding
 pub mod NumberRows
 pub mod TextRows
 pub mod TrainRows
+pub mod Typed
 pub mod Taking
+pub mod ResultTypes

@@ -12,7 +12,7 @@ use Rattle.abc_value.specs.Tree.{Tree, Trees, Pairs, number, text, compound, lis
 use Rattle.abc_value.specs.Regular.{IsRegular, AllRegular, AllRegularPairs, AreCharacters}
 use Rattle.abc_value.specs.Printed.{places, decimals, by_places, sign, number_text, doubled, quoted, joined, display, displays, pair_displays, plain, plains, outer}
 use Rattle.abc_predef.specs.Aligned.{between_spaces}
-use Rattle.abc_predef.specs.declared.characters.TheConstants.{SPACE}
+use Rattle.abc_predef.specs.Characters.{space}
 use Rattle.abc_predef.proofs.Codes.{characters-append}
 
 digits_characters : (b : List ℕ) → AllDigits 10 b → AreCharacters b
@@ -131,9 +131,9 @@ outer_characters (compound ts) h = joined_characters (codes " ") (plains ts) (ch
 outer_characters (list ts) h = plain_characters (list ts) h
 outer_characters (table ps) h = plain_characters (table ps) h
 
-spaces : (n : ℕ) → AreCharacters (replicate n SPACE)
+spaces : (n : ℕ) → AreCharacters (replicate n space)
 spaces zero = tt
 spaces (suc n) = ((omega arith, omega arith), spaces n)
 
 pub between_characters : (m n : ℕ) (b : List ℕ) → AreCharacters b → AreCharacters (between_spaces m b n)
-between_characters m n b h = bracketed (replicate m SPACE) b (replicate n SPACE) (spaces m) h (spaces n)
+between_characters m n b h = bracketed (replicate m space) b (replicate n space) (spaces m) h (spaces n)

@@ -1,5 +1,5 @@
 -- The table of the words of a text, while it is made.
-use Rattle.std.proofs.Common.{◌≡◌, ◌≢◌, ℕ, zero, suc, ◌+◌, ◌*◌, ◌<◌, ◌≤◌, min, List, [], ◌∷◌, ◌++◌, length, take, drop, refl, sym, ap, ◌∙◌, arith, Some, not, Ok, inl}
+use Rattle.std.proofs.Common.{◌≡◌, ◌≢◌, ℕ, zero, suc, ◌+◌, ◌*◌, ◌<◌, ◌≤◌, min, List, [], ◌∷◌, ◌++◌, length, take, drop, refl, sym, ap, ◌∙◌, arith, Some, not}
 use Rattle.std.specs.List.{filter, position_or_len, before_first, after_first}
 use Rattle.std.proofs.lemmas.List.{append_assoc, length-drop, length-take-le}
 use Rattle.abc_num.specs.declared.limits.TheConstants.{MOST_ELEMENTS}
@@ -8,11 +8,10 @@ use Rattle.abc_value.specs.declared.faults.ValueFault.TheVariants.{Memory}
 use Rattle.abc_value.specs.Tree.{Tree, table_of}
 use Rattle.abc_value.specs.Sizes.{size_fault}
 use Rattle.abc_value.specs.Regular.{AreCharacters}
-use Rattle.abc_value.specs.Items.{IsAnswer}
 use Rattle.abc_value.proofs.Itemised.{only_memory}
 use Rattle.std.proofs.lemmas.List.Sums.{prefix_len-le-length}
 use Rattle.abc_predef.proofs.Codes.{characters-drop}
-use Rattle.abc_predef.specs.Texts.{is_space, has_characters, words_of, numbered, split_of}
+use Rattle.abc_predef.specs.Texts.{is_space, has_characters, words_of, numbered}
 use Rattle.abc_predef.specs.Places.{with_word}
 use Rattle.abc_predef.proofs.Words.{spent, words_step, with_next, next_is, next_spent, next_full, words_small}
 
@@ -34,10 +33,6 @@ drop_min [] zero = refl
 drop_min [] (suc n) = ap (λ m. drop {A = ℕ} m []) (let e : min (suc n) 0 ≡ 0 = omega arith in e)
 drop_min (x ∷ xs) zero = ap (λ m. drop m (x ∷ xs)) (let e : min 0 (suc (length xs)) ≡ 0 = omega arith in e)
 drop_min (x ∷ xs) (suc n) = ap (λ m. drop m (x ∷ xs)) (let e : min (suc n) (suc (length xs)) ≡ suc (min n (length xs)) = omega arith in e) ∙ drop_min xs n
-
--- what stands behind the first space is less
-pub rest_shorter : (rest : List ℕ) (n : ℕ) → 0 < length rest → length (drop (min (n + 1) (length rest)) rest) < length rest
-rest_shorter rest n h = omega (arith, length-drop (min (n + 1) (length rest)) rest)
 
 module _ (b : List ℕ) (words : Tree) (rest : List ℕ) (n : ℕ) (h : HasWords b words rest) (some : 0 < length rest) (e : n ≡ position_or_len is_space rest) where
   pub end_within : n ≤ length rest
@@ -76,7 +71,3 @@ module _ (b : List ℕ) (words : Tree) (rest : List ℕ) (n : ℕ) (h : HasWords
 append_nothing : (xs : List (List ℕ)) → xs ++ [] ≡ xs
 append_nothing [] = refl
 append_nothing (x ∷ xs) = ap (λ ys. x ∷ ys) (append_nothing xs)
-
-pub words_done : (b : List ℕ) (words : Tree) (rest : List ℕ) → HasWords b words rest → length rest ≡ 0 → IsAnswer (Ok (split_of b)) (Ok words)
-words_done b words [] h e = inl (ap Ok (h.is ∙ ap (λ ws. table_of (numbered 1 ws)) (sym (h.left ∙ append_nothing h.done))))
-words_done b words (c ∷ rest) h e = absurd (omega arith)

@@ -6,7 +6,7 @@ use Rattle.abc_value.specs.declared.faults.ValueFault.TheVariants.{TooLong}
 use Rattle.abc_value.specs.Tree.{Tree, text}
 use Rattle.abc_predef.specs.declared.aligned.Alignment.{Alignment}
 use Rattle.abc_predef.specs.declared.aligned.Alignment.TheVariants.{Left, Center, Right}
-use Rattle.abc_predef.specs.declared.characters.TheConstants.{SPACE}
+use Rattle.abc_predef.specs.Characters.{space}
 use Rattle.abc_predef.specs.Texts.{if_whole, if_count}
 
 -- how much of the padding stands at the left
@@ -17,7 +17,7 @@ left_share Right pad = pad
 
 -- the text with spaces beside it
 abbrev pub between_spaces : ℕ → List ℕ → ℕ → List ℕ
-between_spaces left b right = replicate left SPACE ++ b ++ replicate right SPACE
+between_spaces left b right = replicate left space ++ b ++ replicate right space
 
 -- the text with spaces up to a length; a longer one as it is
 abbrev pub padded : Alignment → List ℕ → ℕ → List ℕ

@@ -1,10 +1,13 @@
 pub mod Aligned
 pub mod Answers
+pub mod Characters
 pub mod Numbers
 pub mod Operations
 pub mod Order
 pub mod Places
 pub mod Rows
+pub mod ResultTypes
+pub mod Signatures
 pub mod Spellings
 pub mod Takes
 pub mod Texts

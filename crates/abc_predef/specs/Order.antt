@@ -9,7 +9,7 @@ use Rattle.abc_tree.specs.declared.operations.Op.{Op}
 use Rattle.abc_predef.specs.declared.table.Row.{Row}
 use Rattle.abc_predef.specs.declared.table.Operands.{Operands}
 use Rattle.abc_predef.specs.declared.table.Operands.TheVariants.{One, Two}
-use Rattle.abc_predef.specs.declared.characters.TheConstants.{SPACE}
+use Rattle.abc_predef.specs.Characters.{space}
 
 abbrev pub places_of : Operands → ℕ
 places_of (One a) = 1
@@ -17,7 +17,7 @@ places_of (Two a b) = 2
 
 -- the name of a row, without the spaces behind it
 abbrev pub name_of : Row → List ℕ
-name_of r = before_first (λ c. nat_eq c SPACE) r.name
+name_of r = before_first (λ c. nat_eq c space) r.name
 
 -- a name and a number of places
 abbrev pub Key : Type 0

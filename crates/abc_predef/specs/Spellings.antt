@@ -1,9 +1,9 @@
 -- How each operation is spelled: its name or sign, and how many operands it has.
-use Rattle.std.specs.Prelude.{◌≡◌, ℕ, List, codes, Some}
+use Rattle.std.specs.Prelude.{◌≡◌, ℕ, List, codes, map, Some}
 use Rattle.abc_tree.specs.declared.operations.Op.{Op}
 use Rattle.abc_tree.specs.declared.operations.Op.TheVariants as op
 use Rattle.abc_predef.specs.declared.table.TheConstants.{TABLE}
-use Rattle.abc_predef.specs.Order.{Key, named}
+use Rattle.abc_predef.specs.Order.{Key, key_of, named}
 
 abbrev pub spelling : Op → Key
 spelling op.Plus = (codes "+", 1)
@@ -53,3 +53,7 @@ spelling op.More = (codes ">", 2)
 -- the table has each operation under its spelling
 abbrev pub IsSpelledSo : Type 0
 IsSpelledSo = (o : Op) → named TABLE (spelling o) ≡ Some o
+
+-- and no other name or sign
+abbrev pub IsSpelledOnlySo : Type 0
+IsSpelledOnlySo = map key_of TABLE ≡ map (λ r. spelling r.op) TABLE

@@ -6,7 +6,7 @@ use Rattle.abc_num.specs.Number.{whole_number}
 use Rattle.abc_value.specs.declared.faults.ValueFault.{ValueFault}
 use Rattle.abc_value.specs.declared.faults.ValueFault.TheVariants.{NotWhole, OutOfRange, TooLong}
 use Rattle.abc_value.specs.Tree.{Tree, number, text, table_of}
-use Rattle.abc_predef.specs.declared.characters.TheConstants.{SPACE}
+use Rattle.abc_predef.specs.Characters.{space}
 use Rattle.abc_predef.specs.declared.characters.Case.{Case}
 use Rattle.abc_predef.specs.declared.characters.Case.TheVariants.{Capital, Small}
 
@@ -56,7 +56,7 @@ in_case Capital = capital
 in_case Small = small_letter
 
 abbrev pub is_space : ℕ → Bool
-is_space c = nat_eq c SPACE
+is_space c = nat_eq c space
 
 -- the text from its first character on that is no space
 abbrev pub without_leading : List ℕ → List ℕ

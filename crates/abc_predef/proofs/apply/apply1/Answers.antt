@@ -2,7 +2,7 @@ use Rattle.std.proofs.Common.{ap}
 use Rattle.abc_predef.specs.declared.extremes.Extreme.TheVariants.{Least, Greatest}
 use Rattle.abc_predef.specs.Rows.{row_of_one}
 use Rattle.abc_predef.proofs.Bests.{extreme_is}
-use Rattle.abc_predef.proofs.Signatures.{operands}
+use Rattle.abc_predef.specs.Signatures.{operands}
 use Rattle.abc_predef.proofs.AllOperations.{none_of_one}
 use Rattle.abc_predef.proofs.Operanded.{one_number, one_text, one_train, one_table}
 use Rattle.abc_predef.proofs.apply.apply1.Goals as goal

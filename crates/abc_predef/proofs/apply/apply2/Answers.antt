@@ -1,7 +1,8 @@
 use Rattle.std.proofs.Common.{ap, subst}
 use Rattle.abc_predef.specs.declared.table.Letter.TheVariants as letter
 use Rattle.abc_predef.specs.Places.{IsLike}
-use Rattle.abc_predef.proofs.Signatures.{operands, some_is}
+use Rattle.abc_predef.specs.Signatures.{operands}
+use Rattle.abc_predef.proofs.Signatures.{some_is}
 use Rattle.abc_predef.proofs.AllOperations.{none_of_two}
 use Rattle.abc_predef.proofs.Operanded.{first_number, second_number, first_text, second_text, first_train, second_train, element_like}
 use Rattle.abc_predef.proofs.apply.apply2.Goals as goal

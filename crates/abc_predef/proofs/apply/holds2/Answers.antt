@@ -1,5 +1,5 @@
 use Rattle.std.proofs.Common.{ap}
-use Rattle.abc_predef.proofs.Signatures.{operands}
+use Rattle.abc_predef.specs.Signatures.{operands}
 use Rattle.abc_predef.proofs.AllOperations.{none_of_tests}
 use Rattle.abc_predef.proofs.Operanded.{test_train, test_like}
 use Rattle.abc_predef.proofs.apply.holds2.Goals as goal
