@@ -1,4 +1,5 @@
 //! The places and sizes of a store, version 1: a head of 64 bytes, and then regions of records.
+ghost use Rattle.abc_journal.specs.Format.{IsFormat};
 
 /// `ABCSTOR1`, the first eight bytes, as a number.
 pub const MAGIC: u64 = 0x4142_4353_544f_5231;
@@ -28,3 +29,8 @@ pub const FRESH_IMAGE: [u8; FRESH_BYTES] = [
     0, 0, 0, 0, 0, 0, 0, 0, 0, 0, 0, 0, 0, 0, 0, 0, 0, 0, 0, 0, 0, 0, // not read
     0, // the gate
 ];
+
+/// The places, the sizes and the bytes of a fresh store are these.
+pub fn format_is_so()
+    ensures { IsFormat }
+{}

@@ -50,6 +50,8 @@ impl Journal {
 
         ensures refused { H.tells_image → IfNotAStore result (λ at. opened (H.now host.old).image ≡ Err at) }
         ensures fault { IsErrOf result BeginFault.StoreFault → Rose (H.now host.old).store_faults (H.now host.new).store_faults }
+        ensures faultless { OnOk result ((H.now host.new).store_faults ≡ (H.now host.old).store_faults) }
+        ensures refused_faultless { (IsNotAStore result ⊎ IsErrOf result BeginFault.Memory) → (H.now host.new).store_faults ≡ (H.now host.old).store_faults }
 
         ensures rest { KeepsButStore (H.now host.old) (H.now host.new) }
         ensures unchanged { (IsNotAStore result ⊎ IsErrOf result BeginFault.Memory) → (H.now host.new).image ≡ (H.now host.old).image }
@@ -127,6 +129,7 @@ impl Journal {
         ensures full { IsFull result ↔ (self.old.bounds.image < need_of self.old.layout (length payload.now)) }
         ensures need { SaysNeed result (need_of self.old.layout (length payload.now)) self.old.bounds.image }
         ensures fault { IsErrOf result AppendFault.StoreFault → Rose (H.now host.old).store_faults (H.now host.new).store_faults }
+        ensures faultless { OnOk result ((H.now host.new).store_faults ≡ (H.now host.old).store_faults) }
 
         ensures rest { KeepsButStore (H.now host.old) (H.now host.new) }
         ensures bounds { self.new.bounds ≡ self.old.bounds }

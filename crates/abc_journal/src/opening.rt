@@ -3,7 +3,7 @@ ghost use Rattle.std.specs.Prelude.{◌≡◌, ◌≤◌, ◌<◌, ◌⊎◌, Li
 ghost use Rattle.abc_outside.specs.Outside.{Rose, KeepsButStore};
 ghost use Rattle.abc_outside.specs.Stop.{Torn, Leaves};
 ghost use Rattle.abc_journal.specs.Image.{fresh_image, opened_at, read_image as reads};
-ghost use Rattle.abc_journal.specs.Journal.{IfNotAStore};
+ghost use Rattle.abc_journal.specs.Journal.{IfNotAStore, IsNotAStore};
 
 use crate::BeginFault;
 use crate::format::{FRESH_BYTES, FRESH_IMAGE, HEAD_BYTES};
@@ -34,6 +34,7 @@ fn is_fresh<H: Host>(host: &mut H, size: u64) -> Result<bool, Failed>
     ensures stops { Leaves H.clock H.stopped host.old host.new (H.stopped host.old (H.clock host.old)) }
     ensures now { (c s : List ℕ) → H.stopped host.new (H.clock host.new) c s → H.stopped host.old (H.clock host.old) c s }
     ensures cause { OnErr result (Rose (H.now host.old).store_faults (H.now host.new).store_faults) }
+    ensures faultless { OnOk result ((H.now host.new).store_faults ≡ (H.now host.old).store_faults) }
 {
     if size != FRESH_BYTES as u64 {
         return Ok(false);
@@ -53,6 +54,7 @@ pub fn settle<H: Host>(host: &mut H, size: u64) -> Result<(), Failed>
     ensures stops { Leaves H.clock H.stopped host.old host.new (λ c s. (d : List ℕ) × H.stopped host.old (H.clock host.old) d s × Torn 0 FRESH_BYTES d c) }
     ensures rest { KeepsButStore (H.now host.old) (H.now host.new) }
     ensures cause { OnErr result (Rose (H.now host.old).store_faults (H.now host.new).store_faults) }
+    ensures faultless { OnOk result ((H.now host.new).store_faults ≡ (H.now host.old).store_faults) }
 {
     if is_fresh(host, size)? {
         return Ok(());
@@ -97,6 +99,8 @@ fn read_from<H: Host>(
     ensures stops { Leaves H.clock H.stopped host.old host.new (H.stopped host.old (H.clock host.old)) }
     ensures now { (c s : List ℕ) → H.stopped host.new (H.clock host.new) c s → H.stopped host.old (H.clock host.old) c s }
     ensures fault { IsErrOf result BeginFault.StoreFault → Rose (H.now host.old).store_faults (H.now host.new).store_faults }
+    ensures faultless { OnOk result ((H.now host.new).store_faults ≡ (H.now host.old).store_faults) }
+    ensures refused_faultless { (IsNotAStore result ⊎ IsErrOf result BeginFault.Memory) → (H.now host.new).store_faults ≡ (H.now host.old).store_faults }
 {
     let mut bytes = vec![in alloc; 0; (size - start) as usize]?;
     host.read_at(start, &mut bytes)?;
@@ -118,6 +122,8 @@ pub fn read_image<H: Host>(
     ensures stops { Leaves H.clock H.stopped host.old host.new (H.stopped host.old (H.clock host.old)) }
     ensures now { (c s : List ℕ) → H.stopped host.new (H.clock host.new) c s → H.stopped host.old (H.clock host.old) c s }
     ensures fault { IsErrOf result BeginFault.StoreFault → Rose (H.now host.old).store_faults (H.now host.new).store_faults }
+    ensures faultless { OnOk result ((H.now host.new).store_faults ≡ (H.now host.old).store_faults) }
+    ensures refused_faultless { (IsNotAStore result ⊎ IsErrOf result BeginFault.Memory) → (H.now host.new).store_faults ≡ (H.now host.old).store_faults }
 {
     let mut head = [0; HEAD_BYTES];
     host.read_at(0, &mut head)?;

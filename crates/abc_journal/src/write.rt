@@ -15,6 +15,7 @@ pub fn write_through<H: Host>(host: &mut H, at: u64, bytes: &[u8]) -> Result<(),
     ensures stops { Leaves H.clock H.stopped host.old host.new (λ c s. (d : List ℕ) × H.stopped host.old (H.clock host.old) d s × Torn at (length bytes.now) d c) }
     ensures rest { KeepsButStore (H.now host.old) (H.now host.new) }
     ensures cause { OnErr result (Rose (H.now host.old).store_faults (H.now host.new).store_faults) }
+    ensures faultless { OnOk result ((H.now host.new).store_faults ≡ (H.now host.old).store_faults) }
 {
     host.write_at(at, bytes)?;
     host.sync()?;

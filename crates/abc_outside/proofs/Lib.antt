@@ -1,6 +1,5 @@
 pub mod Leaves
 pub mod Endings
-pub mod Keeps
 pub mod Points
 pub mod Quiet
 mod Tears

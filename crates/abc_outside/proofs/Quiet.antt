@@ -1,13 +1,8 @@
 -- When a stop leaves the image as it reads.
-use Rattle.std.proofs.Common.{◌≡◌, ◌∙◌, List, ℕ, length, take, sym, ap, subst, arith}
-use Rattle.std.proofs.lemmas.List.{take_all}
+use Rattle.std.proofs.Common.{◌≡◌, List, ℕ, sym, subst}
 use Rattle.abc_outside.specs.Stop.{Extends, IsQuiet}
 
 module _ {H : Type 0} (clock : H → ℕ) (stopped : H → ℕ → List ℕ → List ℕ → Type 0) where
-  -- a stop leaves nothing else, as after a sync
-  pub quiet_exact : (host : H) (image : List ℕ) → ((c s : List ℕ) → stopped host (clock host) c s → c ≡ image) → IsQuiet clock stopped host image
-  quiet_exact host image exact c s stop = ap (λ (l : List ℕ). take (length image) l) (exact c s stop) ∙ take_all (length image) image (omega arith)
-
   -- after a call that adds no image to those that a stop may leave
   pub quiet_after : (old new : H) (image image_new : List ℕ) → image_new ≡ image → IsQuiet clock stopped old image → ((c s : List ℕ) → stopped new (clock new) c s → stopped old (clock old) c s)
       → IsQuiet clock stopped new image_new

@@ -1,6 +1,6 @@
 //! The host in memory: an image, an input and what was said, with calls that fail where a test wants it.
 ghost use Rattle.std.specs.Prelude.{◌≡◌, ◌≢◌, ◌≤◌, ◌<◌, ◌+◌, ◌-◌, ◌^◌, ◌++◌, [], ◌∷◌, List, ℕ, option_map, length, take, drop, min, vec_len, is_err, IfOk, OnOk, OnErr, IsSome, IsNone, IsErrOf};
-ghost use Rattle.abc_outside.specs.Outside.{Rose, KeepsButStore, KeepsButInput, KeepsButSaid, KeepsButChoice};
+ghost use Rattle.abc_outside.specs.Outside.{Rose, IsFaultless, KeepsButStore, KeepsButInput, KeepsButSaid, KeepsButChoice};
 ghost use Rattle.abc_outside.specs.Stop.{written, Torn, Shortened, Passes};
 
 use crate::chosen::{Chosen, note_choice, note_read};
@@ -51,6 +51,8 @@ fn choose_fault(input: Option<&str>, input_faults: &mut u64, store_faults: &mut 
     ensures store { result ≡ ChooseFault.Store → IsNone input.entry × Rose store_faults.old store_faults.new }
     ensures input_never_falls { input_faults.old ≤ input_faults.new }
     ensures store_never_falls { store_faults.old ≤ store_faults.new }
+    ensures input_alone { result ≡ ChooseFault.Input → store_faults.new ≡ store_faults.old }
+    ensures store_alone { result ≡ ChooseFault.Store → input_faults.new ≡ input_faults.old }
 {
     match input {
         Some(_) => {
@@ -176,6 +178,9 @@ impl Host for MemoryHost {
         ensures input_cause { IsErrOf result ChooseFault.Input → Rose (outside_of self.old).input_faults (outside_of self.new).input_faults }
         ensures input_named { IsErrOf result ChooseFault.Input → IsSome input.entry }
         ensures store_alone { IsErrOf result ChooseFault.Store → IsNone input.entry }
+        ensures store_cause_alone { IsErrOf result ChooseFault.Store → (outside_of self.new).input_faults ≡ (outside_of self.old).input_faults }
+        ensures input_cause_alone { IsErrOf result ChooseFault.Input → (outside_of self.new).store_faults ≡ (outside_of self.old).store_faults }
+        ensures faultless { OnOk result (IsFaultless (outside_of self.old) (outside_of self.new)) }
         ensures called { IsCalled CallKind.Choose (is_err result) self.old self.new }
     {
         if next_fails(&mut self.listed, CallKind::Choose) {
@@ -205,6 +210,7 @@ impl Host for MemoryHost {
         ensures time { Passes (clock_of self.old) (clock_of self.new) (stopped_of self.old) (stopped_of self.new) }
         ensures clock { clock_of self.new ≡ clock_of self.old }
         ensures cause { OnErr result (Rose (outside_of self.old).input_faults (outside_of self.new).input_faults) }
+        ensures faultless { OnOk result (IsFaultless (outside_of self.old) (outside_of self.new)) }
         ensures called { IsCalled CallKind.Read (is_err result) self.old self.new }
     {
         if next_fails(&mut self.listed, CallKind::Read) {
@@ -231,6 +237,7 @@ impl Host for MemoryHost {
         ensures time { Passes (clock_of self.old) (clock_of self.new) (stopped_of self.old) (stopped_of self.new) }
         ensures clock { clock_of self.new ≡ clock_of self.old }
         ensures cause { OnErr result (Rose (outside_of self.old).store_faults (outside_of self.new).store_faults) }
+        ensures faultless { OnOk result (IsFaultless (outside_of self.old) (outside_of self.new)) }
         ensures called { IsCalled CallKind.Size (is_err result) self.old self.new }
     {
         if next_fails(&mut self.listed, CallKind::Size) {
@@ -249,6 +256,7 @@ impl Host for MemoryHost {
         ensures time { Passes (clock_of self.old) (clock_of self.new) (stopped_of self.old) (stopped_of self.new) }
         ensures clock { clock_of self.new ≡ clock_of self.old }
         ensures cause { OnErr result (Rose (outside_of self.old).store_faults (outside_of self.new).store_faults) }
+        ensures faultless { OnOk result (IsFaultless (outside_of self.old) (outside_of self.new)) }
         ensures called { IsCalled CallKind.ReadAt (is_err result) self.old self.new }
     {
         if next_fails(&mut self.listed, CallKind::ReadAt) {
@@ -270,6 +278,7 @@ impl Host for MemoryHost {
         ensures time { Passes (clock_of self.old) (clock_of self.new) (stopped_of self.old) (stopped_of self.new) }
         ensures cause { OnErr result (Rose (outside_of self.old).store_faults (outside_of self.new).store_faults) }
         ensures starved { starved_in self.new ≢ starved_in self.old → clock_of self.new ≡ clock_of self.old }
+        ensures faultless { OnOk result (IsFaultless (outside_of self.old) (outside_of self.new)) }
         ensures called { IsCalled CallKind.WriteAt (is_err result) self.old self.new }
     {
         let fails = next_fails(&mut self.listed, CallKind::WriteAt);
@@ -303,6 +312,7 @@ impl Host for MemoryHost {
         ensures time { Passes (clock_of self.old) (clock_of self.new) (stopped_of self.old) (stopped_of self.new) }
         ensures cause { OnErr result (Rose (outside_of self.old).store_faults (outside_of self.new).store_faults) }
         ensures starved { starved_in self.new ≢ starved_in self.old → clock_of self.new ≡ clock_of self.old }
+        ensures faultless { OnOk result (IsFaultless (outside_of self.old) (outside_of self.new)) }
         ensures called { IsCalled CallKind.Cut (is_err result) self.old self.new }
     {
         let fails = next_fails(&mut self.listed, CallKind::Cut);
@@ -328,6 +338,7 @@ impl Host for MemoryHost {
         ensures stop { (c s : List ℕ) → MayStop self.new c s → MayStop self.old c s }
         ensures time { Passes (clock_of self.old) (clock_of self.new) (stopped_of self.old) (stopped_of self.new) }
         ensures cause { OnErr result (Rose (outside_of self.old).store_faults (outside_of self.new).store_faults) }
+        ensures faultless { OnOk result (IsFaultless (outside_of self.old) (outside_of self.new)) }
         ensures called { IsCalled CallKind.Sync (is_err result) self.old self.new }
     {
         if next_fails(&mut self.listed, CallKind::Sync) {
@@ -354,6 +365,7 @@ impl Host for MemoryHost {
         ensures stays { (c s : List ℕ) → MayStop self.old c s → MayStop self.new c (outside_of self.new).said }
         ensures time { Passes (clock_of self.old) (clock_of self.new) (stopped_of self.old) (stopped_of self.new) }
         ensures cause { OnErr result (Rose (outside_of self.old).sink_faults (outside_of self.new).sink_faults) }
+        ensures faultless { OnOk result (IsFaultless (outside_of self.old) (outside_of self.new)) }
         ensures called { IsCalled CallKind.Say (is_err result) self.old self.new }
     {
         if next_fails(&mut self.listed, CallKind::Say) {

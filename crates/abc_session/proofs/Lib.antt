@@ -15,6 +15,7 @@ mod Replay
 mod Opening
 mod Spelling
 mod Outcomes
+mod Stops
 mod Turns
 mod Places
 mod Broken

@@ -18,19 +18,6 @@ use Rattle.abc_session.proofs.Asks.{asked_weaker, asked_then}
 use Rattle.abc_session.proofs.Cutting.{first_is}
 use Rattle.abc_session.proofs.Turns.{blank_first, item_first}
 
--- before the first line
-pub at_start : (bound : ℕ) (start : Work) (input said : List ℕ) (tells_said : Type 0) (reader : Reader) (now : Outside) → pending_of reader ≡ [] → reader.taken ≡ 0 → now.left ≡ input → now.said ≡ said
-    → IsBeforeLine bound start input said tells_said 0 start reader now
-at_start bound start input said tells_said reader now none taken same same_said = record {
-  used = [];
-  split = sym same ∙ ap (λ (l : List ℕ). l ++ now.left) (sym none);
-  count = omega (arith, taken, ap length none);
-  cut = λ more. refl;
-  number = refl;
-  work_is = refl;
-  said_is = λ told. same_said ∙ sym (append-nil said);
-}
-
 -- with one item more
 after-append : (bound first : ℕ) (work : Work) (items : List Line) (line : Line) → after bound first work (items ++ line ∷ []) ≡ (outcome bound (first + length items) (after bound first work items) line).work
 after-append bound first work [] line = let e : first ≡ first + 0 = omega arith in ap (λ n. (outcome bound n work line).work) e

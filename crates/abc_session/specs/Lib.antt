@@ -14,3 +14,4 @@ pub mod Session
 pub mod Serving
 pub mod Settled
 pub mod Run
+pub mod Status

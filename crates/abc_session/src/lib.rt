@@ -18,6 +18,7 @@ mod targets;
 pub use running::{run, run_within};
 pub use status::{
     COMPLETE, INPUT_FAULT, INPUT_TOO_LONG, MEMORY, NOT_A_STORE, SINK_FAULT, STORE_FAULT, USAGE,
+    statuses_are_numbered,
 };
 
 #[cfg(test)]

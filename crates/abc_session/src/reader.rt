@@ -72,6 +72,7 @@ fn read_piece<H: Host>(host: &mut H, piece: &mut [u8], most: u64) -> Result<usiz
     ensures taken { IfOk result (λ count. (H.now host.new).taken ≡ min ((H.now host.old).taken + count) (2 ^ 64 - 1)) }
     ensures stop { IfErr result (λ stop. stop ≡ LineStop.Input) }
     ensures input { OnErr result (Rose (H.now host.old).input_faults (H.now host.new).input_faults) }
+    ensures faultless { OnOk result ((H.now host.new).input_faults ≡ (H.now host.old).input_faults) }
     ensures failed { OnErr result ((H.now host.new).taken ≡ (H.now host.old).taken) }
     ensures failed_left { OnErr result ((H.now host.new).left ≡ (H.now host.old).left) }
     ensures asked { H.tells_said → Asked (AsksNow (H.now host.old).taken (length (H.now host.old).said)) (H.now host.old).asked (H.now host.new).asked }
@@ -156,7 +157,9 @@ impl Reader {
         ensures more { OnOk result ((self.new.ended ≡ true) ⊎ (self.old.taken < self.new.taken)) }
         ensures used_same { OnOk result (used_of self.new ≡ used_of self.old) }
         ensures not_long { IsErrOf result LineStop.Long → ⊥ }
+        ensures memory_faultless { IsErrOf result LineStop.Memory → (H.now host.new).input_faults ≡ (H.now host.old).input_faults }
         ensures input { IsErrOf result LineStop.Input → Rose (H.now host.old).input_faults (H.now host.new).input_faults }
+        ensures faultless { OnOk result ((H.now host.new).input_faults ≡ (H.now host.old).input_faults) }
 
         ensures failed { OnErr result (self.new.taken ≡ self.old.taken) }
         ensures failed_left { OnErr result ((H.now host.new).left ≡ (H.now host.old).left) }
@@ -194,7 +197,9 @@ impl Reader {
         ensures end_bound { IfOk result (λ found. IsNone found → self.new.taken < self.new.bound) }
 
         ensures long { IsErrOf result LineStop.Long → self.new.taken ≡ self.new.bound }
+        ensures stop_faultless { (IsErrOf result LineStop.Memory ⊎ IsErrOf result LineStop.Long) → (H.now host.new).input_faults ≡ (H.now host.old).input_faults }
         ensures input { IsErrOf result LineStop.Input → Rose (H.now host.old).input_faults (H.now host.new).input_faults }
+        ensures faultless { OnOk result ((H.now host.new).input_faults ≡ (H.now host.old).input_faults) }
         ensures wants { H.tells_input → (IsErrOf result LineStop.Long ⊎ IsErrOf result LineStop.Input)
             → WantsMore (pending_of self.old) (H.now host.old).left self.old.taken self.new.taken }
 

@@ -1,6 +1,6 @@
 //! The run: words in, a status out.
-ghost use Rattle.std.specs.Prelude.{◌≡◌, ◌⊎◌, ◌≤◌, ◌<◌, ◌↔◌, List, ℕ, ℤ, map, length, Ok, Err, None, Some, option_map};
-ghost use Rattle.abc_outside.specs.Outside.{Rose};
+ghost use Rattle.std.specs.Prelude.{◌≡◌, ◌≢◌, ◌⊎◌, ◌≤◌, ◌<◌, ◌↔◌, List, ℕ, ℤ, map, length, Ok, Err, None, Some, option_map};
+ghost use Rattle.abc_outside.specs.Outside.{Rose, IsFaultless};
 ghost use Rattle.abc_outside.specs.Session.{IsBetween, IsBroken, IsCutShort};
 ghost use Rattle.abc_outside.specs.Stop.{Leaves, IsQuiet, Now};
 ghost use Rattle.abc_journal.specs.Journal.{BeginsQuiet};
@@ -31,6 +31,24 @@ fn store_of<'a>(words: &[&'a str]) -> Option<&'a str>
     }
 }
 
+/// The status of a run whose session stops so.
+fn status_of(stop: SessionStop) -> u8
+    ensures input_fault { result ≡ INPUT_FAULT → stop ≡ SessionStop.Input }
+    ensures store_fault { result ≡ STORE_FAULT → stop ≡ SessionStop.StoreFault }
+    ensures sink_fault { result ≡ SINK_FAULT → stop ≡ SessionStop.SinkFault }
+    ensures memory { result ≡ MEMORY → stop ≡ SessionStop.Memory }
+    ensures too_long { result ≡ INPUT_TOO_LONG → stop ≡ SessionStop.Long }
+    ensures no_other { (result ≢ COMPLETE) × (result ≢ NOT_A_STORE) × IsRunStatus result }
+{
+    match stop {
+        SessionStop::Input => INPUT_FAULT,
+        SessionStop::StoreFault => STORE_FAULT,
+        SessionStop::SinkFault => SINK_FAULT,
+        SessionStop::Memory => MEMORY,
+        SessionStop::Long => INPUT_TOO_LONG,
+    }
+}
+
 /// Opens the store that was chosen, and serves the items of the input.
 fn run_store<H: Host>(alloc: Global, host: &mut H, b: &Bounds) -> u8
     requires { (H.now host.old).taken ≡ 0 }
@@ -39,6 +57,7 @@ fn run_store<H: Host>(alloc: Global, host: &mut H, b: &Bounds) -> u8
     ensures input_fault { result ≡ INPUT_FAULT → Rose (H.now host.old).input_faults (H.now host.new).input_faults }
     ensures store_fault { result ≡ STORE_FAULT → Rose (H.now host.old).store_faults (H.now host.new).store_faults }
     ensures sink_fault { result ≡ SINK_FAULT → Rose (H.now host.old).sink_faults (H.now host.new).sink_faults }
+    ensures faultless { ((result ≡ COMPLETE) ⊎ (result ≡ NOT_A_STORE) ⊎ (result ≡ MEMORY) ⊎ (result ≡ INPUT_TOO_LONG)) → IsFaultless (H.now host.old) (H.now host.new) }
     ensures not_a_store { H.tells_image → result ≡ NOT_A_STORE → (at : ℕ) × (opens (H.now host.old).image ≡ Err at) }
     ensures untouched { H.tells_image → (at : ℕ) → opens (H.now host.old).image ≡ Err at → IsUntouched (H.now host.old) (H.now host.new) }
     ensures untouched_stops { H.tells_image → (at : ℕ) → opens (H.now host.old).image ≡ Err at → Leaves H.clock H.stopped host.old host.new (H.stopped host.old (H.clock host.old)) }
@@ -82,11 +101,7 @@ fn run_store<H: Host>(alloc: Global, host: &mut H, b: &Bounds) -> u8
     };
     match serve_all(alloc, &mut store, host, b.input) {
         Ok(()) => COMPLETE,
-        Err(SessionStop::Input) => INPUT_FAULT,
-        Err(SessionStop::StoreFault) => STORE_FAULT,
-        Err(SessionStop::SinkFault) => SINK_FAULT,
-        Err(SessionStop::Memory) => MEMORY,
-        Err(SessionStop::Long) => INPUT_TOO_LONG,
+        Err(stop) => status_of(stop),
     }
 }
 
@@ -101,6 +116,7 @@ pub fn run_within<H: Host>(alloc: Global, words: &[&str], host: &mut H, b: &Boun
     ensures input_fault { result ≡ INPUT_FAULT → Rose (H.now host.old).input_faults (H.now host.new).input_faults }
     ensures store_fault { result ≡ STORE_FAULT → Rose (H.now host.old).store_faults (H.now host.new).store_faults }
     ensures sink_fault { result ≡ SINK_FAULT → Rose (H.now host.old).sink_faults (H.now host.new).sink_faults }
+    ensures faultless { ((result ≡ COMPLETE) ⊎ (result ≡ NOT_A_STORE) ⊎ (result ≡ MEMORY) ⊎ (result ≡ INPUT_TOO_LONG)) → IsFaultless (H.now host.old) (H.now host.new) }
     ensures not_a_store { H.tells_image → result ≡ NOT_A_STORE → (at : ℕ) × (opens (H.now host.old).image ≡ Err at) }
     ensures refused { H.tells_image → (at : ℕ) → opens (H.now host.old).image ≡ Err at → (result ≡ NOT_A_STORE) ⊎ (result ≡ USAGE) ⊎ (result ≡ INPUT_FAULT) ⊎ (result ≡ STORE_FAULT) ⊎ (result ≡ MEMORY) }
     ensures too_long { result ≡ INPUT_TOO_LONG → (H.now host.new).taken ≡ b.now.input }
@@ -166,6 +182,7 @@ pub fn run<H: Host>(alloc: Global, words: &[&str], host: &mut H) -> u8
     ensures input_fault { result ≡ INPUT_FAULT → Rose (H.now host.old).input_faults (H.now host.new).input_faults }
     ensures store_fault { result ≡ STORE_FAULT → Rose (H.now host.old).store_faults (H.now host.new).store_faults }
     ensures sink_fault { result ≡ SINK_FAULT → Rose (H.now host.old).sink_faults (H.now host.new).sink_faults }
+    ensures faultless { ((result ≡ COMPLETE) ⊎ (result ≡ NOT_A_STORE) ⊎ (result ≡ MEMORY) ⊎ (result ≡ INPUT_TOO_LONG)) → IsFaultless (H.now host.old) (H.now host.new) }
     ensures not_a_store { H.tells_image → result ≡ NOT_A_STORE → (at : ℕ) × (opens (H.now host.old).image ≡ Err at) }
     ensures refused { H.tells_image → (at : ℕ) → opens (H.now host.old).image ≡ Err at → (result ≡ NOT_A_STORE) ⊎ (result ≡ USAGE) ⊎ (result ≡ INPUT_FAULT) ⊎ (result ≡ STORE_FAULT) ⊎ (result ≡ MEMORY) }
     ensures too_long { result ≡ INPUT_TOO_LONG → (H.now host.new).taken ≡ INPUT_BOUND }

@@ -10,6 +10,7 @@ pub(crate) fn say_all<H: Host>(host: &mut H, bytes: &[u8]) -> Result<(), Failed>
     ensures all { H.tells_said → OnOk result ((H.now host.new).said ≡ (H.now host.old).said ++ bytes.now) }
     ensures part { H.tells_said → OnErr result ((n : ℕ) × (n < length bytes.now) × ((H.now host.new).said ≡ (H.now host.old).said ++ take n bytes.now)) }
     ensures cause { OnErr result (Rose (H.now host.old).sink_faults (H.now host.new).sink_faults) }
+    ensures faultless { OnOk result ((H.now host.new).sink_faults ≡ (H.now host.old).sink_faults) }
     ensures rest { KeepsButSaid (H.now host.old) (H.now host.new) }
     ensures stops { H.tells_said → Leaves H.clock H.stopped host.old host.new (λ c s. (n : ℕ) × (n ≤ length bytes.now)
         × (s ≡ (H.now host.old).said ++ take n bytes.now) × H.stopped host.old (H.clock host.old) c (H.now host.old).said) }

@@ -1,6 +1,6 @@
 //! The session: items one after the other, to the end of the input.
-ghost use Rattle.std.specs.Prelude.{◌≡◌, ◌≤◌, ◌<◌, ◌⊎◌, ◌++◌, suc, [], true, false, List, ℕ, length, ◌+◌, Ok, IfOk, OnOk, IsErrOf, IsTrue, if◌then◌else◌};
-ghost use Rattle.abc_outside.specs.Outside.{Rose};
+ghost use Rattle.std.specs.Prelude.{◌≡◌, ◌≢◌, ◌≤◌, ◌<◌, ◌⊎◌, ◌++◌, suc, [], true, false, List, ℕ, length, ◌+◌, Ok, IfOk, OnOk, IsErrOf, IsTrue, if◌then◌else◌};
+ghost use Rattle.abc_outside.specs.Outside.{Rose, IsFaultless};
 ghost use Rattle.abc_outside.specs.Stop.{Leaves, IsQuiet};
 ghost use Rattle.abc_outside.specs.Session.{joined, HasServed};
 ghost use Rattle.abc_session.specs.Lines.{items_of, lines_of};
@@ -30,6 +30,34 @@ pub(crate) enum SessionStop {
     Memory,
 }
 
+/// Why a session ends whose reader stops so.
+fn stop_of_line(stop: LineStop) -> SessionStop
+    ensures input { result ≡ SessionStop.Input → stop ≡ LineStop.Input }
+    ensures long { result ≡ SessionStop.Long → stop ≡ LineStop.Long }
+    ensures memory { result ≡ SessionStop.Memory → stop ≡ LineStop.Memory }
+    ensures no_other { (result ≢ SessionStop.StoreFault) × (result ≢ SessionStop.SinkFault) }
+{
+    match stop {
+        LineStop::Input => SessionStop::Input,
+        LineStop::Long => SessionStop::Long,
+        LineStop::Memory => SessionStop::Memory,
+    }
+}
+
+/// Why a session ends whose item is not served.
+fn stop_of_item(stop: ServeStop) -> SessionStop
+    ensures store_fault { result ≡ SessionStop.StoreFault → stop ≡ ServeStop.StoreFault }
+    ensures sink_fault { result ≡ SessionStop.SinkFault → stop ≡ ServeStop.SinkFault }
+    ensures memory { result ≡ SessionStop.Memory → stop ≡ ServeStop.Memory }
+    ensures no_other { (result ≢ SessionStop.Input) × (result ≢ SessionStop.Long) }
+{
+    match stop {
+        ServeStop::StoreFault => SessionStop::StoreFault,
+        ServeStop::SinkFault => SessionStop::SinkFault,
+        ServeStop::Memory => SessionStop::Memory,
+    }
+}
+
 /// Serves the next line, if it is an item. False at the end of the input.
 fn turn<H: Host>(
     alloc: Global,
@@ -56,6 +84,8 @@ fn turn<H: Host>(
     ensures input_fault { IsErrOf result SessionStop.Input → Rose (H.now host.old).input_faults (H.now host.new).input_faults }
     ensures store_fault { IsErrOf result SessionStop.StoreFault → Rose (H.now host.old).store_faults (H.now host.new).store_faults }
     ensures sink_fault { IsErrOf result SessionStop.SinkFault → Rose (H.now host.old).sink_faults (H.now host.new).sink_faults }
+    ensures faultless { OnOk result (IsFaultless (H.now host.old) (H.now host.new)) }
+    ensures stop_faultless { (IsErrOf result SessionStop.Memory ⊎ IsErrOf result SessionStop.Long) → IsFaultless (H.now host.old) (H.now host.new) }
     ensures long { IsErrOf result SessionStop.Long → reader.new.taken ≡ reader.new.bound }
 
     ensures falls { result ≡ Ok true → used_of reader.old < used_of reader.new }
@@ -107,9 +137,7 @@ fn turn<H: Host>(
     let line = match reader.next(host) {
         Ok(Some(line)) => line,
         Ok(None) => return Ok(false),
-        Err(LineStop::Input) => return Err(SessionStop::Input),
-        Err(LineStop::Long) => return Err(SessionStop::Long),
-        Err(LineStop::Memory) => return Err(SessionStop::Memory),
+        Err(stop) => return Err(stop_of_line(stop)),
     };
     if line.is_blank() {
         return Ok(true);
@@ -117,9 +145,7 @@ fn turn<H: Host>(
     *served += 1;
     match serve_item(alloc, store, host, &line, *served) {
         Ok(()) => Ok(true),
-        Err(ServeStop::StoreFault) => Err(SessionStop::StoreFault),
-        Err(ServeStop::SinkFault) => Err(SessionStop::SinkFault),
-        Err(ServeStop::Memory) => Err(SessionStop::Memory),
+        Err(stop) => Err(stop_of_item(stop)),
     }
 }
 
@@ -146,6 +172,8 @@ pub(crate) fn serve_all<H: Host>(
     ensures input_fault { IsErrOf result SessionStop.Input → Rose (H.now host.old).input_faults (H.now host.new).input_faults }
     ensures store_fault { IsErrOf result SessionStop.StoreFault → Rose (H.now host.old).store_faults (H.now host.new).store_faults }
     ensures sink_fault { IsErrOf result SessionStop.SinkFault → Rose (H.now host.old).sink_faults (H.now host.new).sink_faults }
+    ensures faultless { OnOk result (IsFaultless (H.now host.old) (H.now host.new)) }
+    ensures stop_faultless { (IsErrOf result SessionStop.Memory ⊎ IsErrOf result SessionStop.Long) → IsFaultless (H.now host.old) (H.now host.new) }
     ensures chosen { (H.now host.new).chosen ≡ (H.now host.old).chosen }
     ensures none_fell { NoneFell (H.now host.old) (H.now host.new) }
 

@@ -1,4 +1,5 @@
 //! The statuses of a run.
+ghost use Rattle.abc_session.specs.Status.{AreNumbered};
 
 /// The input was read to its end, and everything was said.
 pub const COMPLETE: u8 = 0;
@@ -23,3 +24,8 @@ pub const MEMORY: u8 = 7;
 
 /// The bound on the input is reached, and more is wanted.
 pub const INPUT_TOO_LONG: u8 = 8;
+
+/// The statuses have these numbers.
+pub fn statuses_are_numbered()
+    ensures { AreNumbered }
+{}

@@ -93,6 +93,8 @@ impl Store {
         ensures untouched { H.tells_image → (at : ℕ) → opens (H.now host.old).image ≡ Err at
             → Leaves H.clock H.stopped host.old host.new (H.stopped host.old (H.clock host.old)) }
         ensures fault { IsErrOf result OpenFault.StoreFault → Rose (H.now host.old).store_faults (H.now host.new).store_faults }
+        ensures faultless { OnOk result ((H.now host.new).store_faults ≡ (H.now host.old).store_faults) }
+        ensures refused_faultless { (IsErrOf result OpenFault.NotAStore ⊎ IsErrOf result OpenFault.Memory) → (H.now host.new).store_faults ≡ (H.now host.old).store_faults }
         ensures rest { KeepsButStore (H.now host.old) (H.now host.new) }
 
         ensures stops { H.tells_image → BeginsQuiet H.clock H.stopped host.old (H.now host.old).image
@@ -133,6 +135,7 @@ impl Store {
         ensures full { IsErrOf result PutFault.StoreFull → self.old.journal.bounds.image < need_of self.old.journal.layout (length (spelled (name.now, value))) }
         ensures fits { (IsErrOf result PutFault.StoreFault ⊎ IsOk result) → (need_of self.old.journal.layout (length (spelled (name.now, value))) ≤ self.old.journal.bounds.image) }
         ensures fault { IsErrOf result PutFault.StoreFault → Rose (H.now host.old).store_faults (H.now host.new).store_faults }
+        ensures faultless { OnOk result ((H.now host.new).store_faults ≡ (H.now host.old).store_faults) }
 
         ensures same { IsErrOf result PutFault.StoreFull → self.new ≡ self.old }
         ensures same_host { (IsErrOf result PutFault.StoreFull ⊎ IsErrOf result PutFault.Memory) → host.new ≡ host.old }

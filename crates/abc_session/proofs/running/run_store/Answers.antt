@@ -1,4 +1,5 @@
-use Rattle.std.proofs.Common.{rules, ◌≡◌, ◌∙◌, ◌++◌, List, ℕ, length, ap, subst, arith}
+use Rattle.std.proofs.Common.{◌≡◌, ◌∙◌, ◌++◌, List, ℕ, length, ap, subst, arith}
+use Rattle.std.specs.Prelude.{Err}
 use Rattle.abc_journal.specs.declared.layout.Bounds.{Bounds}
 use Rattle.abc_outside.specs.Session.{joined}
 use Rattle.abc_outside.specs.Session.{IsBetween, IsBroken, IsCutShort}
@@ -8,6 +9,9 @@ use Rattle.abc_session.specs.Serving.{work_of, works, Holds, OpensTo}
 use Rattle.abc_session.specs.Settled.{AsksSettled, IsWaiting}
 use Rattle.abc_session.specs.Run.{items_in}
 use Rattle.abc_session.proofs.Broken.{idle_between, idle_broken}
+use Rattle.abc_session.specs.declared.session.SessionStop.TheVariants as session
+use Rattle.abc_session.specs.declared.status.TheConstants.{INPUT_FAULT, INPUT_TOO_LONG}
+use Rattle.abc_session.proofs.Stops.{either_stop}
 use Rattle.abc_session.proofs.Runs.{starts, one_start, opening_points, session_points, same_run, opening_now}
 use Rattle.abc_session.proofs.running.run_store.Goals as goal
 
@@ -23,46 +27,6 @@ returns-in-Err-Memory-clause-stops g c told told_said told_input quiet work star
 
 pub returns-in-Ok-serve_all-clause-stops : goal.returns-in-Ok-serve_all-clause-stops
 returns-in-Ok-serve_all-clause-stops g c told told_said told_input quiet work start =
-    let image = (g.H.Host.now c.args.host.now).image in
-    let store = work_of c.in-Ok.store in
-    let same : store ≡ work = one_start image store work (starts image (g.H.Host.now c.open.new.host).image store (c.in-Ok.ensures.opened told) (c.in-Ok.ensures.image told) (c.in-Ok.ensures.holds told)) start in
-    session_points g.H.Host.clock g.H.Host.stopped c.args.host.now c.open.new.host c.args.b.now.image work (items_in c.args.b.now.input (g.H.Host.now c.args.host.now).left) (g.H.Host.now c.args.host.now).said
-    c.serve_all.new.host c.in-Ok.store.journal.bounds.image store (items_in c.args.b.now.input (g.H.Host.now c.open.new.host).left) (g.H.Host.now c.open.new.host).said
-    (ap (λ (b : Bounds). b.image) c.in-Ok.ensures.bounds) same (ap (λ (l : List ℕ). items_in c.args.b.now.input l) c.open.ensures.rest.left) c.open.ensures.rest.said
-    (c.open.ensures.stops told quiet work.targets start.targets) (c.serve_all.ensures.stops told told_said told_input (c.in-Ok.ensures.quiet told quiet))
-
-pub returns-in-Err-Input-clause-stops : goal.returns-in-Err-Input-clause-stops
-returns-in-Err-Input-clause-stops g c told told_said told_input quiet work start =
-    let image = (g.H.Host.now c.args.host.now).image in
-    let store = work_of c.in-Ok.store in
-    let same : store ≡ work = one_start image store work (starts image (g.H.Host.now c.open.new.host).image store (c.in-Ok.ensures.opened told) (c.in-Ok.ensures.image told) (c.in-Ok.ensures.holds told)) start in
-    session_points g.H.Host.clock g.H.Host.stopped c.args.host.now c.open.new.host c.args.b.now.image work (items_in c.args.b.now.input (g.H.Host.now c.args.host.now).left) (g.H.Host.now c.args.host.now).said
-    c.serve_all.new.host c.in-Ok.store.journal.bounds.image store (items_in c.args.b.now.input (g.H.Host.now c.open.new.host).left) (g.H.Host.now c.open.new.host).said
-    (ap (λ (b : Bounds). b.image) c.in-Ok.ensures.bounds) same (ap (λ (l : List ℕ). items_in c.args.b.now.input l) c.open.ensures.rest.left) c.open.ensures.rest.said
-    (c.open.ensures.stops told quiet work.targets start.targets) (c.serve_all.ensures.stops told told_said told_input (c.in-Ok.ensures.quiet told quiet))
-
-pub returns-in-Err-StoreFault-serve_all-clause-stops : goal.returns-in-Err-StoreFault-serve_all-clause-stops
-returns-in-Err-StoreFault-serve_all-clause-stops g c told told_said told_input quiet work start =
-    let image = (g.H.Host.now c.args.host.now).image in
-    let store = work_of c.in-Ok.store in
-    let same : store ≡ work = one_start image store work (starts image (g.H.Host.now c.open.new.host).image store (c.in-Ok.ensures.opened told) (c.in-Ok.ensures.image told) (c.in-Ok.ensures.holds told)) start in
-    session_points g.H.Host.clock g.H.Host.stopped c.args.host.now c.open.new.host c.args.b.now.image work (items_in c.args.b.now.input (g.H.Host.now c.args.host.now).left) (g.H.Host.now c.args.host.now).said
-    c.serve_all.new.host c.in-Ok.store.journal.bounds.image store (items_in c.args.b.now.input (g.H.Host.now c.open.new.host).left) (g.H.Host.now c.open.new.host).said
-    (ap (λ (b : Bounds). b.image) c.in-Ok.ensures.bounds) same (ap (λ (l : List ℕ). items_in c.args.b.now.input l) c.open.ensures.rest.left) c.open.ensures.rest.said
-    (c.open.ensures.stops told quiet work.targets start.targets) (c.serve_all.ensures.stops told told_said told_input (c.in-Ok.ensures.quiet told quiet))
-
-pub returns-in-Err-SinkFault-clause-stops : goal.returns-in-Err-SinkFault-clause-stops
-returns-in-Err-SinkFault-clause-stops g c told told_said told_input quiet work start =
-    let image = (g.H.Host.now c.args.host.now).image in
-    let store = work_of c.in-Ok.store in
-    let same : store ≡ work = one_start image store work (starts image (g.H.Host.now c.open.new.host).image store (c.in-Ok.ensures.opened told) (c.in-Ok.ensures.image told) (c.in-Ok.ensures.holds told)) start in
-    session_points g.H.Host.clock g.H.Host.stopped c.args.host.now c.open.new.host c.args.b.now.image work (items_in c.args.b.now.input (g.H.Host.now c.args.host.now).left) (g.H.Host.now c.args.host.now).said
-    c.serve_all.new.host c.in-Ok.store.journal.bounds.image store (items_in c.args.b.now.input (g.H.Host.now c.open.new.host).left) (g.H.Host.now c.open.new.host).said
-    (ap (λ (b : Bounds). b.image) c.in-Ok.ensures.bounds) same (ap (λ (l : List ℕ). items_in c.args.b.now.input l) c.open.ensures.rest.left) c.open.ensures.rest.said
-    (c.open.ensures.stops told quiet work.targets start.targets) (c.serve_all.ensures.stops told told_said told_input (c.in-Ok.ensures.quiet told quiet))
-
-pub returns-in-Err-Memory-serve_all-clause-stops : goal.returns-in-Err-Memory-serve_all-clause-stops
-returns-in-Err-Memory-serve_all-clause-stops g c told told_said told_input quiet work start =
     let image = (g.H.Host.now c.args.host.now).image in
     let store = work_of c.in-Ok.store in
     let same : store ≡ work = one_start image store work (starts image (g.H.Host.now c.open.new.host).image store (c.in-Ok.ensures.opened told) (c.in-Ok.ensures.image told) (c.in-Ok.ensures.holds told)) start in
@@ -125,54 +89,6 @@ returns-in-Ok-serve_all-clause-asked g c told told_said told_input work start =
     (same_run (λ b w l t. Asked (AsksSettled b w l (length t)) mid.asked new.asked) c.args.b.now.image c.in-Ok.store.journal.bounds.image work store old.left mid.left old.said mid.said
     same_bound same c.open.ensures.rest.left c.open.ensures.rest.said (c.serve_all.ensures.asked told_said told_input))
 
-pub returns-in-Err-Input-clause-asked : goal.returns-in-Err-Input-clause-asked
-returns-in-Err-Input-clause-asked g c told told_said told_input work start =
-    let old = g.H.Host.now c.args.host.now in
-    let mid = g.H.Host.now c.open.new.host in
-    let new = g.H.Host.now c.serve_all.new.host in
-    let store = work_of c.in-Ok.store in
-    let same : store ≡ work = one_start old.image store work (starts old.image mid.image store (c.in-Ok.ensures.opened told) (c.in-Ok.ensures.image told) (c.in-Ok.ensures.holds told)) start in
-    let same_bound : c.in-Ok.store.journal.bounds.image ≡ c.args.b.now.image = ap (λ (b : Bounds). b.image) c.in-Ok.ensures.bounds in
-    subst (λ (a : List (ℕ × ℕ)). Asked (AsksSettled c.args.b.now.image work old.left (length old.said)) a new.asked) c.open.ensures.rest.asked
-    (same_run (λ b w l t. Asked (AsksSettled b w l (length t)) mid.asked new.asked) c.args.b.now.image c.in-Ok.store.journal.bounds.image work store old.left mid.left old.said mid.said
-    same_bound same c.open.ensures.rest.left c.open.ensures.rest.said (c.serve_all.ensures.asked told_said told_input))
-
-pub returns-in-Err-StoreFault-serve_all-clause-asked : goal.returns-in-Err-StoreFault-serve_all-clause-asked
-returns-in-Err-StoreFault-serve_all-clause-asked g c told told_said told_input work start =
-    let old = g.H.Host.now c.args.host.now in
-    let mid = g.H.Host.now c.open.new.host in
-    let new = g.H.Host.now c.serve_all.new.host in
-    let store = work_of c.in-Ok.store in
-    let same : store ≡ work = one_start old.image store work (starts old.image mid.image store (c.in-Ok.ensures.opened told) (c.in-Ok.ensures.image told) (c.in-Ok.ensures.holds told)) start in
-    let same_bound : c.in-Ok.store.journal.bounds.image ≡ c.args.b.now.image = ap (λ (b : Bounds). b.image) c.in-Ok.ensures.bounds in
-    subst (λ (a : List (ℕ × ℕ)). Asked (AsksSettled c.args.b.now.image work old.left (length old.said)) a new.asked) c.open.ensures.rest.asked
-    (same_run (λ b w l t. Asked (AsksSettled b w l (length t)) mid.asked new.asked) c.args.b.now.image c.in-Ok.store.journal.bounds.image work store old.left mid.left old.said mid.said
-    same_bound same c.open.ensures.rest.left c.open.ensures.rest.said (c.serve_all.ensures.asked told_said told_input))
-
-pub returns-in-Err-SinkFault-clause-asked : goal.returns-in-Err-SinkFault-clause-asked
-returns-in-Err-SinkFault-clause-asked g c told told_said told_input work start =
-    let old = g.H.Host.now c.args.host.now in
-    let mid = g.H.Host.now c.open.new.host in
-    let new = g.H.Host.now c.serve_all.new.host in
-    let store = work_of c.in-Ok.store in
-    let same : store ≡ work = one_start old.image store work (starts old.image mid.image store (c.in-Ok.ensures.opened told) (c.in-Ok.ensures.image told) (c.in-Ok.ensures.holds told)) start in
-    let same_bound : c.in-Ok.store.journal.bounds.image ≡ c.args.b.now.image = ap (λ (b : Bounds). b.image) c.in-Ok.ensures.bounds in
-    subst (λ (a : List (ℕ × ℕ)). Asked (AsksSettled c.args.b.now.image work old.left (length old.said)) a new.asked) c.open.ensures.rest.asked
-    (same_run (λ b w l t. Asked (AsksSettled b w l (length t)) mid.asked new.asked) c.args.b.now.image c.in-Ok.store.journal.bounds.image work store old.left mid.left old.said mid.said
-    same_bound same c.open.ensures.rest.left c.open.ensures.rest.said (c.serve_all.ensures.asked told_said told_input))
-
-pub returns-in-Err-Memory-serve_all-clause-asked : goal.returns-in-Err-Memory-serve_all-clause-asked
-returns-in-Err-Memory-serve_all-clause-asked g c told told_said told_input work start =
-    let old = g.H.Host.now c.args.host.now in
-    let mid = g.H.Host.now c.open.new.host in
-    let new = g.H.Host.now c.serve_all.new.host in
-    let store = work_of c.in-Ok.store in
-    let same : store ≡ work = one_start old.image store work (starts old.image mid.image store (c.in-Ok.ensures.opened told) (c.in-Ok.ensures.image told) (c.in-Ok.ensures.holds told)) start in
-    let same_bound : c.in-Ok.store.journal.bounds.image ≡ c.args.b.now.image = ap (λ (b : Bounds). b.image) c.in-Ok.ensures.bounds in
-    subst (λ (a : List (ℕ × ℕ)). Asked (AsksSettled c.args.b.now.image work old.left (length old.said)) a new.asked) c.open.ensures.rest.asked
-    (same_run (λ b w l t. Asked (AsksSettled b w l (length t)) mid.asked new.asked) c.args.b.now.image c.in-Ok.store.journal.bounds.image work store old.left mid.left old.said mid.said
-    same_bound same c.open.ensures.rest.left c.open.ensures.rest.said (c.serve_all.ensures.asked told_said told_input))
-
 pub returns-clause-asked : goal.returns-clause-asked
 returns-clause-asked g c told told_said told_input work start =
     let old = g.H.Host.now c.args.host.now in
@@ -185,20 +101,8 @@ returns-clause-asked g c told told_said told_input work start =
     (same_run (λ b w l t. Asked (AsksSettled b w l (length t)) mid.asked new.asked) c.args.b.now.image c.in-Ok.store.journal.bounds.image work store old.left mid.left old.said mid.said
     same_bound same c.open.ensures.rest.left c.open.ensures.rest.said (c.serve_all.ensures.asked told_said told_input))
 
-pub returns-in-Err-Input-clause-waiting : goal.returns-in-Err-Input-clause-waiting
-returns-in-Err-Input-clause-waiting g c told told_said told_input quiet work start _ =
-    let old = g.H.Host.now c.args.host.now in
-    let mid = g.H.Host.now c.open.new.host in
-    let new = g.H.Host.now c.serve_all.new.host in
-    let store = work_of c.in-Ok.store in
-    let same : store ≡ work = one_start old.image store work (starts old.image mid.image store (c.in-Ok.ensures.opened told) (c.in-Ok.ensures.image told) (c.in-Ok.ensures.holds told)) start in
-    let same_bound : c.in-Ok.store.journal.bounds.image ≡ c.args.b.now.image = ap (λ (b : Bounds). b.image) c.in-Ok.ensures.bounds in
-    let now = g.H.Host.stopped c.serve_all.new.host (g.H.Host.clock c.serve_all.new.host) in
-    same_run (λ b w l t. IsWaiting b w l t new now) c.args.b.now.image c.in-Ok.store.journal.bounds.image work store old.left mid.left old.said mid.said
-    same_bound same c.open.ensures.rest.left c.open.ensures.rest.said (c.serve_all.ensures.waiting told told_said told_input (c.in-Ok.ensures.quiet told quiet) (search rules))
-
 pub returns-clause-waiting : goal.returns-clause-waiting
-returns-clause-waiting g c told told_said told_input quiet work start _ =
+returns-clause-waiting g c told told_said told_input quiet work start ends =
     let old = g.H.Host.now c.args.host.now in
     let mid = g.H.Host.now c.open.new.host in
     let new = g.H.Host.now c.serve_all.new.host in
@@ -207,10 +111,10 @@ returns-clause-waiting g c told told_said told_input quiet work start _ =
     let same_bound : c.in-Ok.store.journal.bounds.image ≡ c.args.b.now.image = ap (λ (b : Bounds). b.image) c.in-Ok.ensures.bounds in
     let now = g.H.Host.stopped c.serve_all.new.host (g.H.Host.clock c.serve_all.new.host) in
     same_run (λ b w l t. IsWaiting b w l t new now) c.args.b.now.image c.in-Ok.store.journal.bounds.image work store old.left mid.left old.said mid.said
-    same_bound same c.open.ensures.rest.left c.open.ensures.rest.said (c.serve_all.ensures.waiting told told_said told_input (c.in-Ok.ensures.quiet told quiet) (search rules))
+    same_bound same c.open.ensures.rest.left c.open.ensures.rest.said (c.serve_all.ensures.waiting told told_said told_input (c.in-Ok.ensures.quiet told quiet) (either_stop c.serve_all.result c.in-Err.stop session.Input session.Long (c.status_of.result ≡ INPUT_FAULT) (c.status_of.result ≡ INPUT_TOO_LONG) c.in-Err.is c.status_of.ensures.input_fault c.status_of.ensures.too_long ends))
 
-pub returns-in-Err-Memory-serve_all-clause-between : goal.returns-in-Err-Memory-serve_all-clause-between
-returns-in-Err-Memory-serve_all-clause-between g c told told_said told_input quiet work start _ =
+pub returns-clause-between : goal.returns-clause-between
+returns-clause-between g c told told_said told_input quiet work start ends =
     let old = g.H.Host.now c.args.host.now in
     let mid = g.H.Host.now c.open.new.host in
     let new = g.H.Host.now c.serve_all.new.host in
@@ -219,10 +123,10 @@ returns-in-Err-Memory-serve_all-clause-between g c told told_said told_input qui
     let same_bound : c.in-Ok.store.journal.bounds.image ≡ c.args.b.now.image = ap (λ (b : Bounds). b.image) c.in-Ok.ensures.bounds in
     let now = g.H.Host.stopped c.serve_all.new.host (g.H.Host.clock c.serve_all.new.host) in
     same_run (λ b w l t. IsBetween OpensTo (works b 1 w (items_in c.args.b.now.input l)) (replies b 1 w (items_in c.args.b.now.input l)) t new.said now) c.args.b.now.image c.in-Ok.store.journal.bounds.image work store old.left mid.left old.said mid.said
-    same_bound same c.open.ensures.rest.left c.open.ensures.rest.said (c.serve_all.ensures.between told told_said told_input (c.in-Ok.ensures.quiet told quiet) (search rules))
+    same_bound same c.open.ensures.rest.left c.open.ensures.rest.said (c.serve_all.ensures.between told told_said told_input (c.in-Ok.ensures.quiet told quiet) (c.in-Err.is ∙ ap (λ x. Err x) (c.status_of.ensures.memory ends)))
 
-pub returns-in-Err-StoreFault-serve_all-clause-broken : goal.returns-in-Err-StoreFault-serve_all-clause-broken
-returns-in-Err-StoreFault-serve_all-clause-broken g c told told_said told_input quiet work start _ =
+pub returns-clause-broken : goal.returns-clause-broken
+returns-clause-broken g c told told_said told_input quiet work start ends =
     let old = g.H.Host.now c.args.host.now in
     let mid = g.H.Host.now c.open.new.host in
     let new = g.H.Host.now c.serve_all.new.host in
@@ -231,10 +135,10 @@ returns-in-Err-StoreFault-serve_all-clause-broken g c told told_said told_input 
     let same_bound : c.in-Ok.store.journal.bounds.image ≡ c.args.b.now.image = ap (λ (b : Bounds). b.image) c.in-Ok.ensures.bounds in
     let now = g.H.Host.stopped c.serve_all.new.host (g.H.Host.clock c.serve_all.new.host) in
     same_run (λ b w l t. IsBroken OpensTo (works b 1 w (items_in c.args.b.now.input l)) (replies b 1 w (items_in c.args.b.now.input l)) t new.said now) c.args.b.now.image c.in-Ok.store.journal.bounds.image work store old.left mid.left old.said mid.said
-    same_bound same c.open.ensures.rest.left c.open.ensures.rest.said (c.serve_all.ensures.broken told told_said told_input (c.in-Ok.ensures.quiet told quiet) (search rules))
+    same_bound same c.open.ensures.rest.left c.open.ensures.rest.said (c.serve_all.ensures.broken told told_said told_input (c.in-Ok.ensures.quiet told quiet) (c.in-Err.is ∙ ap (λ x. Err x) (c.status_of.ensures.store_fault ends)))
 
-pub returns-in-Err-SinkFault-clause-cut_short : goal.returns-in-Err-SinkFault-clause-cut_short
-returns-in-Err-SinkFault-clause-cut_short g c told told_said told_input quiet work start _ =
+pub returns-clause-cut_short : goal.returns-clause-cut_short
+returns-clause-cut_short g c told told_said told_input quiet work start ends =
     let old = g.H.Host.now c.args.host.now in
     let mid = g.H.Host.now c.open.new.host in
     let new = g.H.Host.now c.serve_all.new.host in
@@ -243,4 +147,4 @@ returns-in-Err-SinkFault-clause-cut_short g c told told_said told_input quiet wo
     let same_bound : c.in-Ok.store.journal.bounds.image ≡ c.args.b.now.image = ap (λ (b : Bounds). b.image) c.in-Ok.ensures.bounds in
     let now = g.H.Host.stopped c.serve_all.new.host (g.H.Host.clock c.serve_all.new.host) in
     same_run (λ b w l t. IsCutShort OpensTo (works b 1 w (items_in c.args.b.now.input l)) (replies b 1 w (items_in c.args.b.now.input l)) t new.said now) c.args.b.now.image c.in-Ok.store.journal.bounds.image work store old.left mid.left old.said mid.said
-    same_bound same c.open.ensures.rest.left c.open.ensures.rest.said (c.serve_all.ensures.cut_short told told_said told_input (c.in-Ok.ensures.quiet told quiet) (search rules))
+    same_bound same c.open.ensures.rest.left c.open.ensures.rest.said (c.serve_all.ensures.cut_short told told_said told_input (c.in-Ok.ensures.quiet told quiet) (c.in-Err.is ∙ ap (λ x. Err x) (c.status_of.ensures.sink_fault ends)))

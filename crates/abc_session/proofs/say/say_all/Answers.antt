@@ -20,4 +20,5 @@ loop-done-preserved g c =
           (λ image s stop. (done + count, within, g.met.H.Host.says_now c.say.new.self image s stop ∙ said told, now image s stop));
       now = now;
       keeps = search rules;
+      faultless = search rules;
     }

@@ -11,6 +11,7 @@ invariant-loop-done g l = record {
       × (s ≡ (g.H.Host.now l.initial.host).said ++ take n l.bytes) × g.H.Host.stopped l.initial.host (g.H.Host.clock l.initial.host) c (g.H.Host.now l.initial.host).said);
   now : (c s : List ℕ) → g.H.Host.stopped l.host (g.H.Host.clock l.host) c s → g.H.Host.stopped l.initial.host (g.H.Host.clock l.initial.host) c (g.H.Host.now l.initial.host).said;
   keeps : KeepsButSaid (g.H.Host.now l.initial.host) (g.H.Host.now l.host);
+  faultless : (g.H.Host.now l.host).sink_faults ≡ (g.H.Host.now l.initial.host).sink_faults;
 }
 
 abbrev pub decreases-loop-done : goal.decreases-loop-done

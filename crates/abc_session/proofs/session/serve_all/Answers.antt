@@ -39,6 +39,7 @@ items-preserved g c =
       quiet = λ told quiet. c.in_ok-turn.ensures.quiet told (i.quiet told quiet);
       chosen = search rules;
       none_fell = search rules;
+      faultless = search rules;
     }
 
 pub returns-in_err-turn-clause-stops : goal.returns-in_err-turn-clause-stops

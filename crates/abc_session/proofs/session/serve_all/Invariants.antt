@@ -1,5 +1,6 @@
 use Rattle.std.proofs.Common.{◌≡◌, ◌≤◌, ◌+◌, ◌-◌, [], suc, length, true, false, IsTrue}
 use Rattle.abc_outside.specs.Stop.{Leaves, IsQuiet}
+use Rattle.abc_outside.specs.Outside.{IsFaultless}
 use Rattle.abc_outside.specs.Session.{HasServed}
 use Rattle.abc_session.specs.Lines.{items_of, lines_of}
 use Rattle.abc_session.specs.Reading.{lines_left, used_of}
@@ -34,6 +35,7 @@ invariant-items g l =
       quiet : g.H.Host.tells_image → IsQuiet g.H.Host.clock g.H.Host.stopped l.initial.host first.image → IsQuiet g.H.Host.clock g.H.Host.stopped l.host now.image;
       chosen : now.chosen ≡ first.chosen;
       none_fell : NoneFell first now;
+      faultless : IsFaultless first now;
     }
 
 abbrev pub decreases-items : goal.decreases-items

@@ -1,11 +1,14 @@
-use Rattle.std.proofs.Common.{rules, ◌≡◌, ◌∙◌, ◌∷◌, ◌++◌, ◌+◌, suc, List, ℕ, false, sym, ap, subst, arith}
+use Rattle.std.proofs.Common.{rules, ◌≡◌, ◌∙◌, ◌∷◌, ◌++◌, ◌+◌, suc, List, ℕ, false, sym, ap, subst, arith, inl, inr}
 use Rattle.abc_outside.specs.Stop.{IsQuiet, Extends}
 use Rattle.abc_session.specs.Lines.{is_blank, items_of}
 use Rattle.abc_session.specs.Reading.{shown, lines_left}
 use Rattle.abc_session.specs.Session.{outcome}
 use Rattle.abc_session.specs.Serving.{work_of}
+use Rattle.abc_session.specs.declared.serve.ServeStop.TheVariants as item
+use Rattle.abc_session.specs.declared.session.SessionStop.TheVariants as session
+use Rattle.abc_session.proofs.Stops.{stopped_by, stopped_idle}
 use Rattle.abc_session.proofs.Turns.{reading_stops, item_stops, same_goes_on, item_goes_on, blank_first}
-use Rattle.std.specs.Prelude.{◌<◌, length, take}
+use Rattle.std.specs.Prelude.{◌<◌, length, take, IsErrOf}
 use Rattle.abc_session.specs.Reading.{UsesLine, pending_of}
 use Rattle.abc_session.specs.Settled.{IsBeforeLine}
 use Rattle.abc_session.proofs.Places.{past_blank, past_item}
@@ -17,18 +20,8 @@ returns-in-Ok-None-clause-stops g c told told_said told_input quiet =
     reading_stops g.H.Host.clock g.H.Host.stopped c.args.host.now c.next.new.host c.args.store.now.journal.bounds.image (suc c.args.served.now) (work_of c.args.store.now) (g.H.Host.now c.args.host.now).image (g.H.Host.now c.args.host.now).said
     (c.requires.holds told) quiet (g.met.H.Host.says_now c.args.host.now) (items_of (lines_left c.args.reader.now (g.H.Host.now c.args.host.now).left)) c.next.ensures.stops
 
-pub returns-in-Err-Input-clause-stops : goal.returns-in-Err-Input-clause-stops
-returns-in-Err-Input-clause-stops g c told told_said told_input quiet =
-    reading_stops g.H.Host.clock g.H.Host.stopped c.args.host.now c.next.new.host c.args.store.now.journal.bounds.image (suc c.args.served.now) (work_of c.args.store.now) (g.H.Host.now c.args.host.now).image (g.H.Host.now c.args.host.now).said
-    (c.requires.holds told) quiet (g.met.H.Host.says_now c.args.host.now) (items_of (lines_left c.args.reader.now (g.H.Host.now c.args.host.now).left)) c.next.ensures.stops
-
-pub returns-in-Err-Long-clause-stops : goal.returns-in-Err-Long-clause-stops
-returns-in-Err-Long-clause-stops g c told told_said told_input quiet =
-    reading_stops g.H.Host.clock g.H.Host.stopped c.args.host.now c.next.new.host c.args.store.now.journal.bounds.image (suc c.args.served.now) (work_of c.args.store.now) (g.H.Host.now c.args.host.now).image (g.H.Host.now c.args.host.now).said
-    (c.requires.holds told) quiet (g.met.H.Host.says_now c.args.host.now) (items_of (lines_left c.args.reader.now (g.H.Host.now c.args.host.now).left)) c.next.ensures.stops
-
-pub returns-in-Err-Memory-clause-stops : goal.returns-in-Err-Memory-clause-stops
-returns-in-Err-Memory-clause-stops g c told told_said told_input quiet =
+pub returns-in-Err-clause-stops : goal.returns-in-Err-clause-stops
+returns-in-Err-clause-stops g c told told_said told_input quiet =
     reading_stops g.H.Host.clock g.H.Host.stopped c.args.host.now c.next.new.host c.args.store.now.journal.bounds.image (suc c.args.served.now) (work_of c.args.store.now) (g.H.Host.now c.args.host.now).image (g.H.Host.now c.args.host.now).said
     (c.requires.holds told) quiet (g.met.H.Host.says_now c.args.host.now) (items_of (lines_left c.args.reader.now (g.H.Host.now c.args.host.now).left)) c.next.ensures.stops
 
@@ -46,36 +39,6 @@ returns-then-is_blank-clause-goes_on g c told =
 
 pub returns-in-Ok-clause-stops : goal.returns-in-Ok-clause-stops
 returns-in-Ok-clause-stops g c told told_said told_input quiet =
-    let line = shown c.in-Ok-Some.line in
-    let later = lines_left c.next.new.self (g.H.Host.now c.next.new.host).left in
-    let split : lines_left c.args.reader.now (g.H.Host.now c.args.host.now).left ≡ line ∷ later = (rw c.in-Ok-Some.field-0-is at c.in-Ok-Some.ensures.line) told_input in
-    let some : is_blank line ≡ false = search rules in
-    let number : c.args.served.now + 1 ≡ suc c.args.served.now = omega arith in
-    let quiet_mid : IsQuiet g.H.Host.clock g.H.Host.stopped c.next.new.host (g.H.Host.now c.next.new.host).image =
-    λ i s stop. subst (λ m. Extends m i) (sym c.next.ensures.rest.image) (quiet i s (c.next.ensures.now i s stop)) in
-    item_stops g.H.Host.clock g.H.Host.stopped c.args.host.now c.next.new.host c.serve_item.new.host c.args.store.now.journal.bounds.image (suc c.args.served.now) (c.args.served.now + 1) (work_of c.args.store.now) line _ later
-    (g.H.Host.now c.args.host.now).said (g.H.Host.now c.next.new.host).said split some number c.next.ensures.rest.said
-    (reading_stops g.H.Host.clock g.H.Host.stopped c.args.host.now c.next.new.host c.args.store.now.journal.bounds.image (suc c.args.served.now) (work_of c.args.store.now) (g.H.Host.now c.args.host.now).image (g.H.Host.now c.args.host.now).said
-    (c.requires.holds told) quiet (g.met.H.Host.says_now c.args.host.now) (items_of (lines_left c.args.reader.now (g.H.Host.now c.args.host.now).left)) c.next.ensures.stops)
-    (c.serve_item.ensures.stops told told_said quiet_mid)
-
-pub returns-in-Err-StoreFault-clause-stops : goal.returns-in-Err-StoreFault-clause-stops
-returns-in-Err-StoreFault-clause-stops g c told told_said told_input quiet =
-    let line = shown c.in-Ok-Some.line in
-    let later = lines_left c.next.new.self (g.H.Host.now c.next.new.host).left in
-    let split : lines_left c.args.reader.now (g.H.Host.now c.args.host.now).left ≡ line ∷ later = (rw c.in-Ok-Some.field-0-is at c.in-Ok-Some.ensures.line) told_input in
-    let some : is_blank line ≡ false = search rules in
-    let number : c.args.served.now + 1 ≡ suc c.args.served.now = omega arith in
-    let quiet_mid : IsQuiet g.H.Host.clock g.H.Host.stopped c.next.new.host (g.H.Host.now c.next.new.host).image =
-    λ i s stop. subst (λ m. Extends m i) (sym c.next.ensures.rest.image) (quiet i s (c.next.ensures.now i s stop)) in
-    item_stops g.H.Host.clock g.H.Host.stopped c.args.host.now c.next.new.host c.serve_item.new.host c.args.store.now.journal.bounds.image (suc c.args.served.now) (c.args.served.now + 1) (work_of c.args.store.now) line _ later
-    (g.H.Host.now c.args.host.now).said (g.H.Host.now c.next.new.host).said split some number c.next.ensures.rest.said
-    (reading_stops g.H.Host.clock g.H.Host.stopped c.args.host.now c.next.new.host c.args.store.now.journal.bounds.image (suc c.args.served.now) (work_of c.args.store.now) (g.H.Host.now c.args.host.now).image (g.H.Host.now c.args.host.now).said
-    (c.requires.holds told) quiet (g.met.H.Host.says_now c.args.host.now) (items_of (lines_left c.args.reader.now (g.H.Host.now c.args.host.now).left)) c.next.ensures.stops)
-    (c.serve_item.ensures.stops told told_said quiet_mid)
-
-pub returns-in-Err-SinkFault-clause-stops : goal.returns-in-Err-SinkFault-clause-stops
-returns-in-Err-SinkFault-clause-stops g c told told_said told_input quiet =
     let line = shown c.in-Ok-Some.line in
     let later = lines_left c.next.new.self (g.H.Host.now c.next.new.host).left in
     let split : lines_left c.args.reader.now (g.H.Host.now c.args.host.now).left ≡ line ∷ later = (rw c.in-Ok-Some.field-0-is at c.in-Ok-Some.ensures.line) told_input in
@@ -124,21 +87,14 @@ returns-in-Ok-clause-goes_on g c told_input =
 pub returns-in-Ok-None-clause-counted : goal.returns-in-Ok-None-clause-counted
 returns-in-Ok-None-clause-counted g c = omega (arith, c.in-Ok-None.ensures.no_fewer, c.requires.counted)
 
-pub returns-in-Err-Input-clause-idle : goal.returns-in-Err-Input-clause-idle
-returns-in-Err-Input-clause-idle g c told quiet _ i s stop =
-    quiet_opens g.H.Host.clock g.H.Host.stopped c.args.host.now (g.H.Host.now c.args.host.now).image (work_of c.args.store.now) (c.requires.holds told) quiet i s (c.next.ensures.now i s stop)
-
-pub returns-in-Err-Long-clause-idle : goal.returns-in-Err-Long-clause-idle
-returns-in-Err-Long-clause-idle g c told quiet _ i s stop =
-    quiet_opens g.H.Host.clock g.H.Host.stopped c.args.host.now (g.H.Host.now c.args.host.now).image (work_of c.args.store.now) (c.requires.holds told) quiet i s (c.next.ensures.now i s stop)
-
-pub returns-in-Err-Memory-clause-idle : goal.returns-in-Err-Memory-clause-idle
-returns-in-Err-Memory-clause-idle g c told quiet _ i s stop =
+pub returns-in-Err-clause-idle : goal.returns-in-Err-clause-idle
+returns-in-Err-clause-idle g c told quiet _ i s stop =
     quiet_opens g.H.Host.clock g.H.Host.stopped c.args.host.now (g.H.Host.now c.args.host.now).image (work_of c.args.store.now) (c.requires.holds told) quiet i s (c.next.ensures.now i s stop)
 
 pub returns-clause-idle : goal.returns-clause-idle
-returns-clause-idle g c told quiet _ i s stop =
-    let same : c.serve_item.new.host ≡ c.next.new.host = search rules in
+returns-clause-idle g c told quiet stops i s stop =
+    let no = c.stop_of_item.ensures.no_other in
+    let same : c.serve_item.new.host ≡ c.next.new.host = c.serve_item.ensures.memory (stopped_idle c.serve_item.result c.in-Err-serve_item.stop c.stop_of_item.result c.in-Err-serve_item.is no.0 no.1 c.stop_of_item.ensures.memory stops) in
     quiet_opens g.H.Host.clock g.H.Host.stopped c.args.host.now (g.H.Host.now c.args.host.now).image (work_of c.args.store.now) (c.requires.holds told) quiet i s
     (c.next.ensures.now i s (subst (λ h. g.H.Host.stopped h (g.H.Host.clock h) i s) same stop))
 
@@ -170,8 +126,8 @@ returns-in-Ok-clause-before g c told start input said place _ ended =
     (work_is ∙ ap (λ n. (outcome bound n work line).work) number)
     (λ told_said. c.in-Ok.ensures.said told_said ∙ ap (λ (l : List ℕ). l ++ (outcome bound (c.args.served.now + 1) work line).reply) c.next.ensures.rest.said ∙ ap (λ n. old.said ++ (outcome bound n work line).reply) number))
 
-pub returns-in-Err-StoreFault-clause-broken : goal.returns-in-Err-StoreFault-clause-broken
-returns-in-Err-StoreFault-clause-broken g c told told_said told_input quiet _ =
+pub returns-clause-broken : goal.returns-clause-broken
+returns-clause-broken g c told told_said told_input quiet stops =
     let line = shown c.in-Ok-Some.line in
     let later = lines_left c.next.new.self (g.H.Host.now c.next.new.host).left in
     let split : lines_left c.args.reader.now (g.H.Host.now c.args.host.now).left ≡ line ∷ later = (rw c.in-Ok-Some.field-0-is at c.in-Ok-Some.ensures.line) told_input in
@@ -179,15 +135,16 @@ returns-in-Err-StoreFault-clause-broken g c told told_said told_input quiet _ =
     let number : c.args.served.now + 1 ≡ suc c.args.served.now = omega arith in
     let quiet_mid : IsQuiet g.H.Host.clock g.H.Host.stopped c.next.new.host (g.H.Host.now c.next.new.host).image =
     λ i s stop. subst (λ m. Extends m i) (sym c.next.ensures.rest.image) (quiet i s (c.next.ensures.now i s stop)) in
-    let unsaid : (g.H.Host.now c.serve_item.new.host).said ≡ (g.H.Host.now c.next.new.host).said = search rules in
+    let fault : IsErrOf c.serve_item.result item.StoreFault = stopped_by c.serve_item.result c.in-Err-serve_item.stop item.StoreFault c.stop_of_item.result session.StoreFault c.in-Err-serve_item.is c.stop_of_item.ensures.store_fault stops in
+    let unsaid : (g.H.Host.now c.serve_item.new.host).said ≡ (g.H.Host.now c.next.new.host).said = c.serve_item.ensures.unsaid (inl fault) in
     item_broken g.H.Host.clock g.H.Host.stopped c.next.new.host c.serve_item.new.host c.args.store.now.journal.bounds.image (suc c.args.served.now) (c.args.served.now + 1) (work_of c.args.store.now) line
     (lines_left c.args.reader.now (g.H.Host.now c.args.host.now).left) later (g.H.Host.now c.args.host.now).said (g.H.Host.now c.next.new.host).said (g.H.Host.now c.serve_item.new.host).said
     split some number c.next.ensures.rest.said g.met.H.Host.since
     (λ i s stop. quiet_opens g.H.Host.clock g.H.Host.stopped c.args.host.now (g.H.Host.now c.args.host.now).image (work_of c.args.store.now) (c.requires.holds told) quiet i s (c.next.ensures.now i s stop))
     (c.serve_item.ensures.stops told told_said quiet_mid) unsaid
 
-pub returns-in-Err-SinkFault-clause-cut_short : goal.returns-in-Err-SinkFault-clause-cut_short
-returns-in-Err-SinkFault-clause-cut_short g c told told_said told_input quiet _ =
+pub returns-clause-cut_short : goal.returns-clause-cut_short
+returns-clause-cut_short g c told told_said told_input quiet stops =
     let line = shown c.in-Ok-Some.line in
     let bound = c.args.store.now.journal.bounds.image in
     let work = work_of c.args.store.now in
@@ -198,9 +155,10 @@ returns-in-Err-SinkFault-clause-cut_short g c told told_said told_input quiet _ 
     let number : c.args.served.now + 1 ≡ suc c.args.served.now = omega arith in
     let quiet_mid : IsQuiet g.H.Host.clock g.H.Host.stopped c.next.new.host (g.H.Host.now c.next.new.host).image =
     λ i s stop. subst (λ m. Extends m i) (sym c.next.ensures.rest.image) (quiet i s (c.next.ensures.now i s stop)) in
+    let sink : IsErrOf c.serve_item.result item.SinkFault = stopped_by c.serve_item.result c.in-Err-serve_item.stop item.SinkFault c.stop_of_item.result session.SinkFault c.in-Err-serve_item.is c.stop_of_item.ensures.sink_fault stops in
     let part : (n : ℕ) × (n < length (outcome bound (c.args.served.now + 1) work line).reply) × (new.said ≡ (g.H.Host.now c.next.new.host).said ++ take n (outcome bound (c.args.served.now + 1) work line).reply) =
-    c.serve_item.ensures.part told_said (search rules) in
+    c.serve_item.ensures.part told_said sink in
     item_cut g.H.Host.clock g.H.Host.stopped c.next.new.host c.serve_item.new.host bound (suc c.args.served.now) (c.args.served.now + 1) work line
     (lines_left c.args.reader.now (g.H.Host.now c.args.host.now).left) later (g.H.Host.now c.args.host.now).said (g.H.Host.now c.next.new.host).said new.said
-    split some number c.next.ensures.rest.said part.0 part.1 part.2 (work_of c.serve_item.new.store) (search rules)
-    (quiet_opens g.H.Host.clock g.H.Host.stopped c.serve_item.new.host new.image (work_of c.serve_item.new.store) (c.serve_item.ensures.holds told (search rules)) (c.serve_item.ensures.quiet told quiet_mid (search rules)))
+    split some number c.next.ensures.rest.said part.0 part.1 part.2 (work_of c.serve_item.new.store) (c.serve_item.ensures.work (inr sink))
+    (quiet_opens g.H.Host.clock g.H.Host.stopped c.serve_item.new.host new.image (work_of c.serve_item.new.store) (c.serve_item.ensures.holds told (inr sink)) (c.serve_item.ensures.quiet told quiet_mid (inr sink)))

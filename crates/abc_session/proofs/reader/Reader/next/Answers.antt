@@ -62,6 +62,7 @@ pieces-preserved g c =
           let same : c.take_part.new.self.ended ≡ c.pieces.self.ended = c.in_ok-take_part.ensures.ended in
           absurd (cc (went, not, same));
       keeps = search rules;
+      faultless = search rules;
       stops = run_after g.H.Host.clock g.H.Host.stopped c.args.host.now c.pieces.host c.fill.new.host _ _ i.stops c.fill.ensures.stops i.now;
       now = λ image said stop. i.now image said (c.fill.ensures.now image said stop);
     }

@@ -20,6 +20,7 @@ invariant-pieces g l = record {
       (g.H.Host.now l.initial.host).asked (g.H.Host.now l.host).asked;
   ended_asks : l.initial.self.ended ≡ true → (l.self.ended ≡ true) × ((g.H.Host.now l.host).asked ≡ (g.H.Host.now l.initial.host).asked);
   keeps : KeepsButInput (g.H.Host.now l.initial.host) (g.H.Host.now l.host);
+  faultless : (g.H.Host.now l.host).input_faults ≡ (g.H.Host.now l.initial.host).input_faults;
   stops : Leaves g.H.Host.clock g.H.Host.stopped l.initial.host l.host (g.H.Host.stopped l.initial.host (g.H.Host.clock l.initial.host));
   now : (c s : List ℕ) → g.H.Host.stopped l.host (g.H.Host.clock l.host) c s → g.H.Host.stopped l.initial.host (g.H.Host.clock l.initial.host) c s;
 }
