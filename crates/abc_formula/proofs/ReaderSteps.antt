@@ -92,9 +92,6 @@ module _ (stack : List Frame) (a : Expr) (all : Found) (so_far : finished stack 
 pub opens_same : (d most : ℕ) (stack rest : List Frame) (frame : Frame) → d + opens stack ≤ most → stack ≡ frame ∷ rest → opens (frame ∷ rest) ≡ opens rest → d + opens rest ≤ most
 opens_same d most stack rest frame h e same = subst (λ x. d + x ≤ most) (ap opens e ∙ same) h
 
-pub opens_inside : (d most : ℕ) (stack rest : List Frame) (frame : Frame) → d + opens stack ≤ most → stack ≡ frame ∷ rest → d + opens (frame ∷ rest) ≤ most
-opens_inside d most stack rest frame h e = subst (λ x. d + opens x ≤ most) e h
-
 pub wanted_as : (here : List Lexeme) (x : Operand) (d k : ℕ) (one two : List Frame) (y : Result Step FormulaFault) (e : ℕ) (new : List Frame) → one ≡ two
     → Steps here (λ next. wanted x next d one k) y e new → Steps here (λ next. wanted x next d two k) y e new
 wanted_as here x d k one two y e new is p = subst (λ s. Steps here (λ next. wanted x next d s k) y e new) is p

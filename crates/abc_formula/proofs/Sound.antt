@@ -577,9 +577,6 @@ alone_some (Some (b, t ∷ ts)) a h = cc
 
 module _ (law : ReadsTokens) (own : List (List ℕ)) (convert : Converts) (convert_sound : (d : ℕ) (bytes : List ℕ) (a : Expr) → convert d bytes ≡ Some a
     → (ts : List Token) × (fields : List Expr) × AreTokens bytes ts × Parts own d fields (map (seen bytes) ts) [] × (a ≡ compound fields)) where
-  abbrev FrontTold : ℕ → Part → List Part → List Piece → Type 0
-  FrontTold d part parts pieces = Pieces own d (part ∷ parts) pieces
-
   piece_told : (d : ℕ) (bytes : List ℕ) (x : Option Expr) (parts : List Part) (q : Option (List Piece)) (pieces : List Piece) → conversion_at convert d bytes ≡ x
       → ((pieces : List Piece) → q ≡ Some pieces → Pieces own d parts pieces)
       → front_piece (converted_piece x) q ≡ Some pieces → Pieces own d (part.Conversion bytes ∷ parts) pieces

@@ -5,7 +5,6 @@ use Rattle.std.proofs.lemmas.Bool.{ne_eqb}
 use Rattle.std.proofs.lemmas.List.{append_assoc, length-take-le, drop_all}
 use Rattle.std.proofs.Math.Seq.{drop-cons, take-suc}
 use Rattle.abc_tokens.specs.Bytes.{backquote, begins}
-use Rattle.abc_formula.specs.declared.texts.Cut.{Cut}
 use Rattle.abc_formula.specs.declared.texts.Cut.TheVariants as cut
 use Rattle.abc_formula.specs.declared.texts.Found.TheVariants as found
 use Rattle.abc_formula.specs.declared.texts.Part.{Part}
@@ -74,9 +73,6 @@ pub plain_cut : (q b : ℕ) (rest bytes : List ℕ) → bytes ≡ b ∷ rest →
 plain_cut q b rest bytes is n m =
     subst (λ (z : List ℕ). Cuts q z (cut.Part (found.Character b) 1)) (sym is) (omega arith, omega arith, by_table q b rest false false (ne_eqb b q n) (ne_eqb b backquote m))
 
-pub cut_as : (q b : ℕ) (rest bytes : List ℕ) (x : Cut) → bytes ≡ b ∷ rest → (c : ℕ) → b ≡ c → Cuts q (c ∷ rest) x → Cuts q bytes x
-cut_as q b rest bytes x is c e h = subst (λ (z : List ℕ). Cuts q z x) (ap (λ z. z ∷ rest) (sym e) ∙ sym is) h
-
 pub nothing_left : (q : ℕ) (bytes : List ℕ) → length bytes ≡ 0 → split q bytes 0 ≡ None
 unfolding split
 nothing_left q [] e = refl
@@ -131,25 +127,12 @@ added_conversion parts all new cs run inner more ea en er =
 
 -- ---- the loop
 
-none_stays : (add : List Part → List Part) (x y : Splitting) → before_parts add x ≡ y → x ≡ None → y ≡ None
-none_stays add x y h e = sym h ∙ ap (before_parts add) e
-
 pub finds_all : (add : List Part → List Part) (x y : Splitting) (all : List Part) → before_parts add x ≡ y → x ≡ Some [] → all ≡ add [] → Some all ≡ y
 finds_all add x y all h e g = ap Some g ∙ sym (ap (before_parts add) e) ∙ h
-
-pub finds_none : (add : List Part → List Part) (x y : Splitting) → before_parts add x ≡ y → x ≡ None → None ≡ y
-finds_none add x y h e = sym (none_stays add x y h e)
 
 twice : (f g : List Part → List Part) (x : Splitting) → before_parts f (before_parts g x) ≡ before_parts (λ parts. f (g parts)) x
 twice f g None = refl
 twice f g (Some parts) = refl
-
-same_add : (f g : List Part → List Part) (x : Splitting) → ((more : List Part) → f more ≡ g more) → before_parts f x ≡ before_parts g x
-same_add f g None h = refl
-same_add f g (Some parts) h = ap Some (h parts)
-
-pub finds_more : (old new add : List Part → List Part) (x y all : Splitting) → before_parts old x ≡ all → x ≡ before_parts add y → ((more : List Part) → new more ≡ old (add more)) → before_parts new y ≡ all
-finds_more old new add x y all h e g = same_add new (λ parts. old (add parts)) y g ∙ sym (twice old add y) ∙ ap (before_parts old) (sym e) ∙ h
 
 pub flush_all : (parts : List Part) (cs : List ℕ) → parts ++ flushed cs ≡ parts ++ glued cs []
 flush_all parts cs = ap (λ z. parts ++ z) (sym (flush_end cs))

@@ -1,16 +1,15 @@
 -- What the answers of the call for tests mean.
-use Rattle.std.proofs.Common.{◌≡◌, ◌≢◌, ◌≤◌, refl, ℕ, List, [], ◌∷◌, length, Option, Some, None, ap, ◌∙◌, subst, arith}
+use Rattle.std.proofs.Common.{◌≡◌, ◌≤◌, ℕ, List, [], ◌∷◌, length, Option, Some, None, ap, subst, arith}
 use Rattle.std.specs.Prelude.{Result, Ok, Err}
 use Rattle.abc_tree.specs.declared.formulas.Test.{Test}
 use Rattle.abc_formula.specs.declared.fault.FormulaFault.{FormulaFault}
 use Rattle.abc_formula.specs.declared.fault.FormulaFault.TheVariants as fault
 use Rattle.abc_formula.specs.declared.lexemes.Lexeme.{Lexeme}
 use Rattle.abc_formula.specs.declared.test_frames.Place.TheVariants as place
-use Rattle.abc_formula.specs.declared.testing.TestFront.{TestFront}
 use Rattle.abc_formula.specs.Machine.{ReadsTokens, reader}
 use Rattle.abc_formula.specs.TestGrammar.{Tests}
 use Rattle.abc_formula.specs.TestMachine.{FoundTest, test_alone, test_in}
-use Rattle.abc_formula.specs.TestSteps.{AnswersTest, FindsTest}
+use Rattle.abc_formula.specs.TestSteps.{AnswersTest}
 use Rattle.abc_formula.proofs.TestComplete.{complete_test}
 use Rattle.abc_formula.proofs.TestSound.{reads_test}
 
@@ -48,17 +47,3 @@ pub never_high : {Q : Type 0} (found : Option Test) (x : FormulaFault) → Answe
 never_high found fault.BadCommand h e = cc
 never_high found fault.TooMany h e = absurd h
 never_high found fault.Memory h e = cc
-
--- the test in front is all, or something is behind it
-pub front_alone : (front : TestFront) (found : FoundTest) → FindsTest (Ok front) found → front.rest.now ≡ [] → test_alone found ≡ Some front.test
-front_alone front found h e = ap test_alone (h ∙ ap (λ (ts : List Lexeme). with_rest ts) e)
-  where
-    with_rest : List Lexeme → FoundTest
-    with_rest ts = Some (front.test, ts)
-
-pub front_more : (front : TestFront) (found : FoundTest) → FindsTest (Ok front) found → front.rest.now ≢ [] → test_alone found ≡ None
-front_more front found h n = ap test_alone h ∙ more front.rest.now n
-  where
-    more : (ts : List Lexeme) → ts ≢ [] → (let whole : FoundTest = Some (front.test, ts) in test_alone whole ≡ None)
-    more [] n = absurd (n refl)
-    more (token ∷ ts) n = refl

@@ -216,9 +216,6 @@ front_part (refinement h p) = front_expression p
 
 -- ---- how a part is joined
 
-no_keyword_close : (word : List ℕ) (token : Lexeme) → token ≡ t.Sign s.Close → is_keyword word token ≡ false
-no_keyword_close word token h = ap (is_keyword word) h
-
 behind_end : (p : Place) (ts : List Lexeme) → EndsTest ts → behind_of p ts ≡ behind.Ends
 behind_end p [] h = refl
 behind_end place.Whole (token ∷ ts) h = ap (λ token. behind_of place.Whole (token ∷ ts)) h

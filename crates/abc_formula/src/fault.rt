@@ -1,6 +1,6 @@
 //! Why tokens have no tree.
 use abc_num::OutOfMemory;
-use std::alloc::{AllocError, AllocFailed};
+use std::alloc::AllocFailed;
 
 /// Why tokens have no tree.
 #[derive(Clone, Copy, Debug, PartialEq, Eq)]
@@ -11,17 +11,6 @@ pub enum FormulaFault {
     TooMany,
     /// There was not enough memory.
     Memory,
-}
-
-impl From<AllocError> for FormulaFault {
-    ghost from_gives = { λ refused fault. fault ≡ Memory };
-
-    ghost use Rattle.std.specs.Prelude.{◌≡◌};
-    ghost use Rattle.abc_formula.specs.declared.fault.FormulaFault.TheVariants.{Memory};
-
-    fn from(_refused: AllocError) -> FormulaFault {
-        FormulaFault::Memory
-    }
 }
 
 impl<T: Drop> From<AllocFailed<T>> for FormulaFault {

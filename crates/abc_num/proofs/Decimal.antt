@@ -1,10 +1,10 @@
 -- Long division, and powers of ten.
-use Rattle.std.proofs.Common.{◌≡◌, ℕ, ◌+◌, ◌*◌, ◌/◌, ◌%◌, ◌<◌, ◌≤◌, ◌^◌, sym, ap, arith}
-use Rattle.std.proofs.Math.Nat.{div-mul_cancel, div-add-mod, mod-lt, mul-le-mul_left, pow-zero, pow-le-pow_right}
+use Rattle.std.proofs.Common.{◌≡◌, ℕ, ◌+◌, ◌*◌, ◌/◌, ◌<◌, ◌≤◌, ◌^◌, sym, ap, arith}
+use Rattle.std.proofs.Math.Nat.{div-mul_cancel, div-add-mod, mul-le-mul_left, pow-zero, pow-le-pow_right}
 use Rattle.std.proofs.Common.{inl, inr}
 use Rattle.std.proofs.lemmas.Bool.{cases_lt}
 use Rattle.std.specs.Int.{IsGcd}
-use Rattle.abc_num.proofs.Powers.{power-more, power-le}
+use Rattle.abc_num.proofs.Powers.{power-le}
 
 pub tens-at_most : (i most : ℕ) → i ≤ most → 10 ^ i ≤ 10 ^ most
 tens-at_most i most h = pow-le-pow_right {n = 10} (omega arith) h
@@ -30,16 +30,6 @@ digit-below b rest h =
       | inl k ↦ omega arith
       | inr k ↦ (let p = mul-le-mul_left b k in absurd (omega (arith, whole, p)))
     ]
-
-pub more_decimals : (a b digits rest power turns : ℕ) → AreDecimals a b digits rest power turns → AreDecimals a b (10 * digits + (10 * rest) / b) ((10 * rest) % b) (10 * power) (turns + 1)
-more_decimals a b digits rest power turns d =
-    let whole = div-add-mod (10 * rest) b in
-    let digit = digit-below b rest d.rest_less in record {
-      power_is = (let p = power-more 10 turns in omega (arith, p, d.power_is));
-      value = omega (arith, whole, d.value);
-      rest_less = mod-lt (10 * rest) (let k : 0 < b = omega (arith, d.rest_less) in k);
-      digits_less = omega (arith, digit, d.digits_less);
-    }
 
 -- w + a / b, over the lowest denominator
 pub whole_sides : (w a b g : ℕ) → IsGcd a b g → (w * (b / g) + a / g) * b ≡ (w * b + a) * (b / g)

@@ -1,7 +1,7 @@
 -- A fraction and its lowest terms.
-use Rattle.std.proofs.Common.{◌≡◌, ℕ, suc, zero, ◌*◌, ◌<◌, ◌≤◌, ◌/◌, ◌^◌, refl, sym, ap, ◌∙◌, subst, arith, pos, neg_ℤ, ◌*ℤ◌, Bool, true, false, not, min, inl, inr}
+use Rattle.std.proofs.Common.{◌≡◌, ℕ, suc, zero, ◌*◌, ◌<◌, ◌≤◌, ◌/◌, ◌^◌, refl, sym, ap, ◌∙◌, subst, arith, pos, neg_ℤ, ◌*ℤ◌, Bool, true, false, not, inl, inr}
 use Rattle.std.specs.Prelude.{unsigned_abs}
-use Rattle.std.specs.Int.{IsGcd, ◌∣◌, int_signum}
+use Rattle.std.specs.Int.{IsGcd, ◌∣◌}
 use Rattle.std.proofs.lemmas.Bool.{cases_eq}
 use Rattle.std.proofs.lemmas.Int.{ints, unsigned_abs-mul}
 use Rattle.std.proofs.Math.Nat.{one-dvd, div-mul_cancel, mul-dvd-mul_right, dvd_of_mul-dvd-mul_right, pos_of_dvd_of_pos}
@@ -106,8 +106,3 @@ pub signed-not : (s : Bool) (x : ℕ) → signed (not s) x ≡ neg_ℤ (signed s
 signed-not false x = refl
 signed-not true zero = refl
 signed-not true (suc x) = refl
-
-pub signum-signed : (s : Bool) (x : ℕ) → signed s (min x 1) ≡ int_signum (signed s x)
-signum-signed false x = refl
-signum-signed true zero = refl
-signum-signed true (suc x) = let e : min (suc x) 1 ≡ 1 = omega arith in ap (λ n. neg_ℤ (pos n)) e

@@ -1,5 +1,5 @@
 -- Comparing numbers without leaving 128 bits.
-use Rattle.std.proofs.Common.{◌≡◌, ◌≢◌, ℕ, zero, suc, ◌+◌, ◌<◌, ◌≤◌, ◌^◌, ◌-◌, sym, ap, ◌∙◌, arith, ℤ, pos, negsuc, ◌*ℤ◌, inl, inr, Some, None, nat_eq, true, false}
+use Rattle.std.proofs.Common.{◌≡◌, ◌≢◌, ℕ, zero, suc, ◌+◌, ◌<◌, ◌≤◌, ◌^◌, ◌-◌, sym, ap, ◌∙◌, arith, ℤ, pos, negsuc, ◌*ℤ◌, inl, inr, Some, nat_eq, true, false}
 use Rattle.std.specs.Prelude.{◌<ℤ◌, unsigned_abs}
 use Rattle.std.specs.declared.cmp.Ordering.TheVariants.{Less, Equal, Greater}
 use Rattle.std.specs.Ordering.{int_cmp}
@@ -90,6 +90,3 @@ whole_of-some f n e = elim (cases_eq f.denominator 1) [
   | inl h ↦ (let t : nat_eq f.denominator 1 ≡ true = grind (arith, nat_tests) in let k = rw t at e in (h, cc))
   | inr h ↦ (let t : nat_eq f.denominator 1 ≡ false = grind (arith, nat_tests) in let k = rw t at e in absurd (cc))
 ]
-
-pub whole_of-none : (f : Fraction) → None ≡ whole_of f → f.denominator ≢ 1
-whole_of-none f e h = let t : nat_eq f.denominator 1 ≡ true = grind (arith, nat_tests) in let k = rw t at e in cc

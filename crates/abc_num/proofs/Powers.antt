@@ -1,5 +1,5 @@
 -- Powers, by sign and size.
-use Rattle.std.proofs.Common.{◌≡◌, ◌≢◌, ℕ, suc, zero, ◌+◌, ◌-◌, ◌*◌, ◌/◌, ◌%◌, ◌<◌, ◌≤◌, ◌^◌, refl, sym, ap, ◌∙◌, subst, arith, ℤ, pos, negsuc, neg_ℤ, ◌*ℤ◌, ◌<ℤ◌, ◌≤ℤ◌, Bool, true, false, inl, inr, ◌⊎◌, Result, Err, ◌==◌}
+use Rattle.std.proofs.Common.{◌≡◌, ◌≢◌, ℕ, suc, zero, ◌+◌, ◌-◌, ◌*◌, ◌/◌, ◌%◌, ◌<◌, ◌≤◌, ◌^◌, refl, sym, ap, ◌∙◌, subst, arith, ℤ, pos, negsuc, neg_ℤ, ◌*ℤ◌, ◌<ℤ◌, Bool, true, false, inl, inr, ◌⊎◌, Result, Err, ◌==◌}
 use Rattle.std.specs.Prelude.{unsigned_abs}
 use Rattle.std.specs.Int.{IsGcd, ◌∣◌, int_pow}
 use Rattle.std.proofs.lemmas.Int.{ints}
@@ -75,10 +75,6 @@ int_pow_ne s a e h k =
       | inl i ↦ pos_ne (a ^ e) p (sym (int_pow-even s a e i) ∙ k)
       | inr i ↦ (let z = signed_zero s (a ^ e) (sym (int_pow-odd s a e i) ∙ k) in absurd (omega arith))
     ]
-
-pub power_forward : (s : Bool) (a b : ℕ) (e : ℤ) (r : Result Fraction NumFault) → pos 0 ≤ℤ e → IsRatio (int_pow (signed s a) (unsigned_abs e)) (pos (b ^ unsigned_abs e)) r → IsPower (fraction (signed s a) b) e r
-power_forward s a b (pos n) r h i = i
-power_forward s a b (negsuc n) r h i = absurd (omega (arith, ints, h))
 
 pub power_turned : (s : Bool) (a b : ℕ) (e : ℤ) (r : Result Fraction NumFault) → e <ℤ pos 0 → 0 < a → IsRatio (int_pow (signed s b) (unsigned_abs e)) (pos (a ^ unsigned_abs e)) r → IsPower (fraction (signed s a) b) e r
 power_turned s a b (pos n) r h p i = absurd (omega (arith, ints, h))

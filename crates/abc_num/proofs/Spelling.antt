@@ -3,16 +3,8 @@ use Rattle.std.proofs.Common.{◌≡◌, ℕ, suc, ◌<◌, List, [], ◌∷◌,
 use Rattle.std.specs.Prelude.{All}
 use Rattle.std.proofs.lemmas.Bool.Decides.{nat_tests}
 use Rattle.std.proofs.lemmas.List.{take-append-drop}
-use Rattle.std.specs.Prelude.{unsigned_abs}
-use Rattle.std.specs.Int.{◌∣◌}
-use Rattle.std.proofs.Common.{◌*◌, pos, ◌*ℤ◌, false}
-use Rattle.std.proofs.lemmas.Int.{ints}
-use Rattle.std.proofs.lemmas.Nat.Gcd.{dvd_antisymm, dvd_refl}
-use Rattle.std.proofs.Math.Nat.{dvd-mul_left, one-dvd}
-use Rattle.abc_num.specs.Number.{Fraction, whole_number}
-use Rattle.abc_num.specs.Ratio.{HasValue}
-use Rattle.abc_num.proofs.LowestTerms.{number_lowest, sizes}
-use Rattle.abc_num.specs.Literal.{point, IsDigit, IsDigits, IsNumberToken, digits_value, literal_numerator, literal_denominator, in_front, behind}
+use Rattle.std.proofs.Common.{false}
+use Rattle.abc_num.specs.Literal.{point, IsDigit, IsDigits, IsNumberToken, in_front, behind}
 
 later : (c : ℕ) (cs : List ℕ) → All IsDigit (c ∷ cs) → All IsDigit cs
 later c cs a k d h = a (suc k) d (omega arith)
@@ -53,15 +45,3 @@ IsNumberToken-at b at h e front back =
     ∙ ap (λ c. take at b ++ (c ∷ drop (suc at) b)) e
     ∙ ap (λ k. take at b ++ (point ∷ drop k b)) (sym (add-one at)) in
     inr (take at b, drop (at + 1) b, parts, front, back)
-
--- digits alone spell a whole number
-pub digits_number : (b : List ℕ) (n : Fraction) → All IsDigit b → HasValue (pos (literal_numerator b)) (pos (literal_denominator b)) n → n ≡ whole_number (pos (digits_value b))
-digits_number b n a v =
-    let value : HasValue (pos (digits_value b * 1 + 0)) (pos 1) n = rw (in_front-digits b a, behind-digits b a) at v in
-    let low = number_lowest n value.0 in
-    let size = sizes false (digits_value b * 1 + 0) 1 n value.1 in
-    let multiple : n.denominator ∣ unsigned_abs n.numerator = subst (λ z. n.denominator ∣ z) (let k : digits_value b * n.denominator ≡ unsigned_abs n.numerator = omega (arith, size) in k) (dvd-mul_left n.denominator (digits_value b)) in
-    let one : n.denominator ≡ 1 = dvd_antisymm (low.0.2 n.denominator multiple (dvd_refl n.denominator)) (one-dvd n.denominator) in
-    let same : n.numerator *ℤ pos 1 ≡ pos ((digits_value b * 1 + 0) * 1) = value.1 ∙ ap (λ d. pos ((digits_value b * 1 + 0) * d)) one in
-    let top : n.numerator ≡ pos (digits_value b) = omega (arith, ints, same) in
-    λ i. record { numerator = top i; denominator = one i }

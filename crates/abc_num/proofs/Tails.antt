@@ -1,5 +1,5 @@
 -- The fraction that decimals spell, from the last one on.
-use Rattle.std.proofs.Common.{◌≡◌, ℕ, suc, ◌+◌, ◌-◌, ◌*◌, ◌/◌, ◌<◌, ◌≤◌, ◌^◌, List, [], ◌∷◌, ◌++◌, length, get_or, take, drop, sym, ap, ◌∙◌, subst, arith, drop-cons, length-append, false, Result, Err, pos}
+use Rattle.std.proofs.Common.{◌≡◌, ℕ, suc, ◌+◌, ◌-◌, ◌*◌, ◌/◌, ◌<◌, ◌≤◌, ◌^◌, List, ◌∷◌, ◌++◌, length, get_or, take, drop, sym, ap, ◌∙◌, subst, arith, drop-cons, length-append, false, Result, Err, pos}
 use Rattle.std.specs.Prelude.{unsigned_abs}
 use Rattle.std.specs.Int.{IsGcd, ◌∣◌}
 use Rattle.std.proofs.Math.Nat.{div-mul_cancel, pow-suc, mul-le-mul_left, mul-le-mul_right, eq_of_mul-eq-mul_right, lt_of_mul-lt-mul_right, dvd-mul_left, dvd-add_iff_right, mul-dvd-mul_right, dvd_of_mul-dvd-mul_right, le_of_dvd}
@@ -11,14 +11,10 @@ use Rattle.abc_num.specs.declared.number.NumFault.{NumFault}
 use Rattle.abc_num.specs.declared.number.NumFault.TheVariants.{Overflow}
 use Rattle.abc_num.specs.Ratio.{IsRatio, IsNoNumber}
 use Rattle.abc_num.specs.Literal.{IsDigit, SpellsFraction, digits_value}
-use Rattle.abc_num.proofs.Divisors.{gauss, coprime_one, coprime_more}
+use Rattle.abc_num.proofs.Divisors.{gauss, coprime_more}
 use Rattle.abc_num.proofs.Ratios.{IsRatio-none, IsRatio-scaled}
 use Rattle.abc_num.proofs.Digits.{digits_value-append, power-positive}
 use Rattle.abc_num.proofs.LowestTerms.{divisor_pos, parts_coprime, number_lowest, bounds, sizes, top_too_great}
-
--- no decimals
-pub no_tail : SpellsFraction [] 0 1
-no_tail = record { lowest = coprime_one 0; proper = omega arith; bottom_fits = omega arith; value = omega arith }
 
 -- one decimal more in front, before its fraction is reduced
 pub tail_value : (c : ℕ) (cs : List ℕ) (x y : ℕ) → SpellsFraction cs x y → ((c - 48) * y + x) * 10 ^ length (c ∷ cs) ≡ digits_value (c ∷ cs) * (10 * y)

@@ -12,7 +12,7 @@ use Rattle.abc_value.specs.Tree.{Tree, list, table, trees, pairs, empty, table_o
 use Rattle.abc_value.specs.Order.{order}
 use Rattle.abc_value.specs.Sizes.{trees_height, trees_weight, pairs_height, pairs_weight, count, sizes_fault, size_fault}
 use Rattle.abc_value.specs.Changes.{add, with_pair, associate_of}
-use Rattle.abc_value.specs.Parts.{IsList, IsTable, parts_of, pairs_of}
+use Rattle.abc_value.specs.Parts.{IsTable, parts_of, pairs_of}
 use Rattle.abc_value.proofs.Adding.{add_adds, small_sizes}
 use Rattle.abc_value.proofs.Rows.{listed_trees, count_trees, listed_pairs_pairs, count_pairs_pairs}
 use Rattle.abc_print.specs.declared.frames.Pair.{Pair}
@@ -59,9 +59,6 @@ pub none_collected : (whole rest : List Tree) → rest ≡ whole → IsCollected
 unfolding size_fault sizes_fault
 none_collected whole rest e = record { is = ([], refl, onto_none rest ∙ ap in_order e); small = refl }
 
-pub collected_list : (whole rest : List Tree) (all : Tree) → IsCollected whole all rest → IsList all
-collected_list whole rest all c = subst IsList (sym c.is.1) tt
-
 parts_are : (all : Tree) (xs : List Tree) → all ≡ list (trees xs) → parts_of all ≡ xs
 parts_are all xs e = ap parts_of e ∙ listed_trees xs
 
@@ -72,14 +69,6 @@ one_collected whole rest now all new e c same is small =
       is = (add e xs, is ∙ ap (λ z. list (trees (add e z))) parts, sym (onto_last xs rest e) ∙ ap (onto xs) (sym same) ∙ c.is.2);
       small = ap size_fault is ∙ small;
     }
-
-pub all_collected : (whole : List Tree) (all : Tree) → IsCollected whole all [] → listed whole ≡ Some all
-all_collected whole all c =
-    let whole_is : list (trees (in_order whole)) ≡ all = ap (λ z. list (trees z)) (sym c.is.2) ∙ sym c.is.1 in
-    ap if_small whole_is ∙ ap (by_fault all) c.small
-
-by_other : (t : Tree) (o : Option ValueFault) (f : ValueFault) → o ≡ Some f → by_fault t o ≡ None
-by_other t o f e = ap (by_fault t) e
 
 not_small : (t : Tree) → (size_fault t ≡ None → ⊥) → if_small t ≡ None
 not_small t h = at (size_fault t) h
@@ -170,9 +159,6 @@ table_is : (ps : List (Tree × Tree)) → IsTable (table_of ps)
 table_is [] = tt
 table_is (p ∷ ps) = tt
 
-pub placed_table : (whole rest : List Pair) (all : Tree) → ArePlaced whole all rest → IsTable all
-placed_table whole rest all c = subst IsTable (sym c.is.1) (table_is c.is.0)
-
 pairs_of_table : (ps : List (Tree × Tree)) → pairs_of (table_of ps) ≡ ps
 pairs_of_table [] = refl
 pairs_of_table (p ∷ ps) = listed_pairs_pairs (p ∷ ps)
@@ -208,11 +194,6 @@ pair_placed whole rest now all new p c same absent is small =
       );
       small = ap size_fault is ∙ small;
     }
-
-pub all_placed : (whole : List Pair) (all : Tree) → ArePlaced whole all [] → tabled whole ≡ Some all
-all_placed whole all c =
-    let whole_is : table_of (placed whole) ≡ all = ap table_of (sym c.is.2) ∙ sym c.is.1 in
-    ap if_small whole_is ∙ ap (by_fault all) c.small
 
 pub too_many : (whole rest now : List Pair) (all : Tree) (p : Pair) (f : ValueFault) (g : LiteralFault) → ArePlaced whole all now → now ≡ rest ++ p ∷ [] → associate_of p.key (pairs_of all) ≡ None
     → (f ≢ value_fault.Memory → size_fault (table (pairs (with_pair p.key p.associate (pairs_of all)))) ≡ Some f) → g ≡ refusal f → Gives (Err g) (tabled whole)

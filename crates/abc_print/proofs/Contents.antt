@@ -1,8 +1,7 @@
 -- The characters of a text, one at a time.
 use Rattle.std.proofs.Common.{◌≡◌, ℕ, zero, suc, ◌+◌, ◌<◌, ◌≤◌, Bool, true, false, List, [], ◌∷◌, ◌++◌, length, drop, get_or, Option, Some, None, refl, sym, ap, ◌∙◌, subst, arith, length-append, inl, inr}
 use Rattle.std.specs.Prelude.{◌⊎◌, ◌==◌, ◌||◌, if◌then◌else◌}
-use Rattle.std.proofs.lemmas.List.{append_assoc, append-nil, drop_more}
-use Rattle.std.proofs.lemmas.Bool.{cases_lt}
+use Rattle.std.proofs.lemmas.List.{append_assoc, drop_more}
 use Rattle.std.proofs.lemmas.Bool.Decides.{nat_tests}
 use Rattle.abc_value.specs.Regular.{IsCharacter, AreCharacters}
 use Rattle.abc_value.proofs.Itemised.{characters_at}
@@ -19,10 +18,6 @@ behind_before : (out : List ℕ) (c : ℕ) (o : Option (List ℕ)) → behind ou
 behind_before out c None = refl
 behind_before out c (Some cs) = ap Some (sym (append_assoc out (c ∷ []) cs))
 
-behind_none : (o : Option (List ℕ)) → o ≡ behind [] o
-behind_none None = refl
-behind_none (Some cs) = refl
-
 -- how many bytes a character takes, by whether it is one that stands twice, and whether it does
 abbrev wide : Bool → Bool → Option ℕ
 wide special same = if special then (if same then Some 2 else None) else Some 1
@@ -36,11 +31,6 @@ two_wide : (q c d : ℕ) (bytes : List ℕ) (special same : Bool) → wide speci
 two_wide q c d bytes true true h = refl
 two_wide q c d bytes true false h = cc
 two_wide q c d bytes false same h = cc
-
-no_width : (q c d : ℕ) (bytes : List ℕ) (special same : Bool) → wide special same ≡ None → (if special then (if same then before c (content q bytes) else None) else before c (content q (d ∷ bytes))) ≡ None
-no_width q c d bytes true true h = cc
-no_width q c d bytes true false h = refl
-no_width q c d bytes false same h = cc
 
 width_is : (special same : Bool) (w : ℕ) → wide special same ≡ Some w → (w ≡ 1) ⊎ (w ≡ 2)
 width_is true true w h = inr (let e : 2 ≡ w = cc in sym e)
@@ -61,9 +51,6 @@ pub record IsRead (q : ℕ) (bytes out : List ℕ) (at : ℕ) : Type 0 where
   pub characters : AreCharacters out
   pub short : length out ≤ at
   pub within : at ≤ length bytes
-
-pub none_read : (q : ℕ) (bytes : List ℕ) → IsRead q bytes [] 0
-none_read q bytes = record { same = behind_none (content q bytes); characters = tt; short = omega arith; within = omega arith }
 
 behind_one : (b : List ℕ) (c : ℕ) → AreCharacters b → IsCharacter c → AreCharacters (b ++ c ∷ [])
 behind_one [] c a h = (h, tt)
@@ -96,38 +83,11 @@ one_read q bytes out new at w r a h e n =
       within = omega (arith, width_small q c (get_or bytes (at + 1) 0) w e);
     }
 
-pub wrong_width : (q : ℕ) (bytes out : List ℕ) (at : ℕ) → IsRead q bytes out at → at + 1 < length bytes → width q (get_or bytes at 0) (get_or bytes (at + 1) 0) ≡ None → content q bytes ≡ None
-wrong_width q bytes out at r h e =
-    let c = get_or bytes at 0 in
-    let d = get_or bytes (at + 1) 0 in
-    r.same ∙ ap (behind out) (ap (content q) (two_more bytes at h) ∙ no_width q c d (drop (at + 2) bytes) ((c == q) || (c == backquote)) (d == c) e)
-
 same_byte : (q : ℕ) → (q == q) ≡ true
 same_byte q = grind (arith, nat_tests)
-
-other_byte : (c q : ℕ) → (c ≡ q → ⊥) → (c == q) ≡ false
-other_byte c q h = grind (arith, nat_tests)
 
 drop_all : (b : List ℕ) (i : ℕ) → length b ≤ i → drop i b ≡ []
 drop_all [] zero h = refl
 drop_all [] (suc i) h = refl
 drop_all (c ∷ cs) zero h = absurd (omega arith)
 drop_all (c ∷ cs) (suc i) h = drop_all cs i (omega arith)
-
-pub last_read : (q : ℕ) (bytes out : List ℕ) (at : ℕ) → IsRead q bytes out at → at < length bytes → length bytes ≤ at + 1 → get_or bytes at 0 ≡ q → content q bytes ≡ Some out
-last_read q bytes out at r h k e =
-    let past : drop (at + 1) bytes ≡ [] = drop_all bytes (at + 1) k in
-    let end : drop at bytes ≡ q ∷ [] = drop_more bytes at 0 h ∙ (λ i. e i ∷ past i) in
-    r.same ∙ ap (λ z. behind out (content q z)) end ∙ rw (same_byte q) (ap Some (append-nil out))
-
-pub no_last : (q : ℕ) (bytes out : List ℕ) (at : ℕ) → IsRead q bytes out at → length bytes ≤ at + 1 → (at < length bytes → get_or bytes at 0 ≡ q → ⊥) → content q bytes ≡ None
-no_last q bytes out at r k e =
-    let nothing : content q (drop at bytes) ≡ None = elim (cases_lt at (length bytes)) [
-      | inl h ↦ (
-          let past : drop (at + 1) bytes ≡ [] = drop_all bytes (at + 1) k in
-          let end : drop at bytes ≡ get_or bytes at 0 ∷ [] = drop_more bytes at 0 h ∙ ap (λ z. get_or bytes at 0 ∷ z) past in
-          ap (content q) end ∙ rw (other_byte (get_or bytes at 0) q (e h)) refl
-          )
-      | inr h ↦ ap (content q) (drop_all bytes at h)
-    ] in
-    r.same ∙ ap (behind out) nothing

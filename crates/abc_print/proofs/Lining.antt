@@ -19,12 +19,6 @@ use Rattle.abc_print.specs.Lexing.{lexed, Rest, RestBy, ReadsToken}
 abbrev pub IsAt : List Seen → List Lexeme → List Seen → State → Type 0
 IsAt whole all left s = (ls : List Lexeme) → lexed whole state.Start ls ↔ Rest all left s ls
 
-pub at_first : (whole : List Seen) (all : List Lexeme) → all ≡ [] → IsAt whole all whole state.Start
-at_first whole all e ls = (
-  λ h. (ls, ap (λ z. z ++ ls) (sym e), h),
-  λ r. subst (lexed whole state.Start) (sym (r.1 ∙ ap (λ z. z ++ r.0) e)) r.2,
-)
-
 left_is : (line : List ℕ) (ts : List Token) (i : ℕ) (d : Token) → i < length ts → drop i (map (seen line) ts) ≡ seen line (get_or ts i d) ∷ drop (i + 1) (map (seen line) ts)
 left_is line ts i d h =
     drop_more (map (seen line) ts) i (seen line d) (omega (arith, length-map ts (seen line), h))

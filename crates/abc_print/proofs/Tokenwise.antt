@@ -1,5 +1,5 @@
 -- One token more.
-use Rattle.std.proofs.Common.{◌≡◌, ◌≢◌, ℕ, ◌<◌, ℤ, pos, ◌*ℤ◌, Bool, true, false, List, [], ◌∷◌, ◌++◌, length, Some, None, Result, Ok, Err, refl, sym, ap, ◌∙◌, subst, arith}
+use Rattle.std.proofs.Common.{◌≡◌, ◌≢◌, ℕ, ◌<◌, ℤ, pos, ◌*ℤ◌, Bool, List, [], ◌∷◌, ◌++◌, length, Result, Ok, Err, refl, sym, ap, ◌∙◌, subst, arith}
 use Rattle.std.specs.Prelude.{◌↔◌, IsErrOf}
 use Rattle.std.proofs.lemmas.Int.{ints}
 use Rattle.std.proofs.lemmas.List.{append_assoc}
@@ -14,7 +14,7 @@ use Rattle.abc_num.specs.Operations.{IsQuotient}
 use Rattle.abc_num.proofs.OrderLaws.{one_number}
 use Rattle.abc_num.proofs.Digits.{power-positive}
 use Rattle.abc_num.proofs.Ratios.{IsRatio-number, IsRatio-no_number, pos_ne}
-use Rattle.abc_value.specs.Tree.{number, text}
+use Rattle.abc_value.specs.Tree.{number}
 use Rattle.abc_print.specs.declared.faults.LiteralFault.{LiteralFault}
 use Rattle.abc_print.specs.declared.faults.LiteralFault.TheVariants as fault
 use Rattle.abc_print.specs.declared.frames.Mark.{Mark}
@@ -24,8 +24,8 @@ use Rattle.abc_print.specs.declared.lexing.Class.{Class}
 use Rattle.abc_print.specs.declared.lexing.Class.TheVariants as class
 use Rattle.abc_print.specs.declared.lexing.State.{State}
 use Rattle.abc_print.specs.declared.lexing.State.TheVariants as state
-use Rattle.abc_print.specs.Lexemes.{Seen, IsValueOf, with_sign, content}
-use Rattle.abc_print.specs.Lexing.{Then, at_token, lexed, RestBy, Reads, GivesNumber, GivesQuotient, starts, numbered, number_then, divides}
+use Rattle.abc_print.specs.Lexemes.{Seen, IsValueOf, with_sign}
+use Rattle.abc_print.specs.Lexing.{Then, at_token, lexed, RestBy, Reads, GivesNumber, GivesQuotient, starts, numbered, divides}
 
 pub one_value : (b : List ℕ) (x y : Fraction) → IsValueOf b x → IsValueOf b y → x ≡ y
 one_value b x y h k =
@@ -62,14 +62,8 @@ no_number fault.Memory b P h r = h
 pub start_number : (all : List Lexeme) (b : List ℕ) (x : Fraction) → IsValueOf b x → Reads all class.Number b state.Start all (Ok (state.Numbered x))
 start_number all b x h = reads_same all class.Number b state.Start (state.Numbered x) (λ ts ms. with_number b (λ y. lexed ts (state.Numbered y) ms) x h)
 
-pub start_no_number : (all new : List Lexeme) (b : List ℕ) (g : LiteralFault) → GivesNumber (Err g) b → Reads all class.Number b state.Start new (Err g)
-start_no_number all new b g h = reads_refused all class.Number b state.Start new g (λ e ts ms. no_number g b (λ y. lexed ts (state.Numbered y) ms) h)
-
 pub signed_number : (all : List Lexeme) (b : List ℕ) (s : Bool) (x : Fraction) → IsValueOf b x → Reads all class.Number b (state.Signed s) all (Ok (state.Numbered (with_sign s x)))
 signed_number all b s x h = reads_same all class.Number b (state.Signed s) (state.Numbered (with_sign s x)) (λ ts ms. with_number b (λ y. lexed ts (state.Numbered (with_sign s y)) ms) x h)
-
-pub signed_no_number : (all new : List Lexeme) (b : List ℕ) (s : Bool) (g : LiteralFault) → GivesNumber (Err g) b → Reads all class.Number b (state.Signed s) new (Err g)
-signed_no_number all new b s g h = reads_refused all class.Number b (state.Signed s) new g (λ e ts ms. no_number g b (λ y. lexed ts (state.Numbered (with_sign s y)) ms) h)
 
 not_zero : (z : ℤ) (b : ℕ) → z ≢ pos 0 → 0 < b → z *ℤ pos b ≢ pos 0
 not_zero z b h p e =
@@ -100,24 +94,6 @@ quotient_given x y z r e n zero h =
 
 -- ---- a class that nothing begins with
 
-pub only_number : (c : Class) (b : List ℕ) (P : Fraction → Type 0) → (c ≡ class.Number → ⊥) → ¬ (number_then c b P)
-only_number class.Number b P h r = h refl
-only_number class.Text b P h r = r
-only_number class.Plus b P h r = r
-only_number class.Minus b P h r = r
-only_number class.Slash b P h r = r
-only_number (class.Mark m) b P h r = r
-only_number class.Other b P h r = r
-
-pub signed_other : (all new : List Lexeme) (c : Class) (b : List ℕ) (s : Bool) → (c ≡ class.Number → ⊥) → Reads all c b (state.Signed s) new (Err fault.BadInput)
-signed_other all new c b s h = reads_never all c b (state.Signed s) new (λ ts ms. only_number c b (λ x. lexed ts (state.Numbered (with_sign s x)) ms) h)
-
-pub divided_other : (all new : List Lexeme) (c : Class) (b : List ℕ) (x : Fraction) → (c ≡ class.Number → ⊥) → Reads all c b (state.Divided x) new (Err fault.BadInput)
-divided_other all new c b x h = reads_never all c b (state.Divided x) new (λ ts ms. only_number c b (divides x (lexed ts) ms) h)
-
-pub divided_no_number : (all new : List Lexeme) (b : List ℕ) (x : Fraction) (g : LiteralFault) → GivesNumber (Err g) b → Reads all class.Number b (state.Divided x) new (Err g)
-divided_no_number all new b x g h = reads_refused all class.Number b (state.Divided x) new g (λ e ts ms. no_number g b (divides x (lexed ts) ms) h)
-
 no_quotient : (g : LiteralFault) (x y : Fraction) (next : State → List Lexeme → Type 0) (ms : List Lexeme) → GivesQuotient (Err g) x y → ¬ (divides x next ms y)
 no_quotient fault.BadInput x y next ms h r = h r.1 r.0 r.2
 no_quotient fault.Memory x y next ms h r = h
@@ -136,27 +112,6 @@ divided_number all new b x y z v q e = reads_push all class.Number b (state.Divi
 ))
 
 -- ---- texts and signs
-
-pub start_mark : (all new : List Lexeme) (b : List ℕ) (m : Mark) → new ≡ all ++ lexeme.Mark m ∷ [] → Reads all (class.Mark m) b state.Start new (Ok state.Start)
-start_mark all new b m e = reads_push all (class.Mark m) b state.Start new (lexeme.Mark m) state.Start e (λ ts ms. (λ r. r, λ r. r))
-
-pub start_sign : (all : List Lexeme) (b : List ℕ) → Reads all class.Plus b state.Start all (Ok (state.Signed false))
-start_sign all b = reads_same all class.Plus b state.Start (state.Signed false) (λ ts ms. (λ r. r, λ r. r))
-
-pub start_minus : (all : List Lexeme) (b : List ℕ) → Reads all class.Minus b state.Start all (Ok (state.Signed true))
-start_minus all b = reads_same all class.Minus b state.Start (state.Signed true) (λ ts ms. (λ r. r, λ r. r))
-
-pub start_text : (all new : List Lexeme) (q : ℕ) (b cs : List ℕ) → content q b ≡ Some cs → new ≡ all ++ lexeme.Value (text cs) ∷ [] → Reads all class.Text (q ∷ b) state.Start new (Ok state.Start)
-start_text all new q b cs h e = reads_push all class.Text (q ∷ b) state.Start new (lexeme.Value (text cs)) state.Start e (λ ts ms. (
-  λ r.
-      let same : Some r.0 ≡ Some cs = sym r.1 ∙ h in
-      let is : r.0 ≡ cs = cc in
-      (r.2.0, r.2.1 ∙ ap (λ z. lexeme.Value (text z) ∷ r.2.0) is, r.2.2),
-  λ r. (cs, h, r),
-))
-
-pub start_no_text : (all new : List Lexeme) (q : ℕ) (b : List ℕ) (g : LiteralFault) → (g ≡ fault.BadInput → content q b ≡ None) → Reads all class.Text (q ∷ b) state.Start new (Err g)
-start_no_text all new q b g h = reads_refused all class.Text (q ∷ b) state.Start new g (λ e ts ms r. let bad : Some r.0 ≡ None = sym r.1 ∙ h e in cc)
 
 -- ---- a number that nothing divides
 

@@ -16,10 +16,6 @@ at_class : (t : Seen) (ts : List Seen) (s : State) (ls : List Lexeme) (c : Class
 unfolding lexed
 at_class t ts s ls c e h = subst (λ k. at_token k t.1 (lexed ts) s ls) (sym e) h
 
-of_class : (t : Seen) (ts : List Seen) (s : State) (ls : List Lexeme) (c : Class) → IsClass t c → lexed (t ∷ ts) s ls → at_token c t.1 (lexed ts) s ls
-unfolding lexed
-of_class t ts s ls c e h = subst (λ k. at_token k t.1 (lexed ts) s ls) e h
-
 -- ---- what is defined is read
 
 signed_to : {x : Fraction} {ts rest : List Seen} → IsSigned x ts rest → (ls : List Lexeme) → lexed rest (state.Numbered x) ls → lexed ts state.Start ls

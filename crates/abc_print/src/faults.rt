@@ -1,6 +1,6 @@
 //! Why a line is read as no value.
 use abc_num::OutOfMemory;
-use std::alloc::{AllocError, AllocFailed};
+use std::alloc::AllocFailed;
 
 /// Why a line is read as no value.
 #[derive(Clone, Copy, PartialEq, Eq, Debug)]
@@ -9,17 +9,6 @@ pub enum LiteralFault {
     BadInput,
     /// There was not enough memory.
     Memory,
-}
-
-impl From<AllocError> for LiteralFault {
-    ghost use Rattle.std.specs.Prelude.{◌≡◌};
-    ghost use Rattle.abc_print.specs.declared.faults.LiteralFault.TheVariants.{Memory};
-
-    ghost from_gives = { λ _ f. f ≡ Memory };
-
-    fn from(_refused: AllocError) -> LiteralFault {
-        LiteralFault::Memory
-    }
 }
 
 impl<T: Drop> From<AllocFailed<T>> for LiteralFault {

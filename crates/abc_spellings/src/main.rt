@@ -13,7 +13,6 @@ use abc_num::{Names, OutOfMemory, Text};
 use abc_tokens::{Token, TokenFault, tokens};
 use abc_tree::{Expr, Test};
 use show::{print_address_names, print_expression, print_test};
-use std::alloc::AllocError;
 use std::io;
 use thiserror::Error;
 
@@ -26,12 +25,6 @@ pub(crate) enum Fault {
     Memory,
     #[error(transparent)]
     Io(#[from] io::Error),
-}
-
-impl From<AllocError> for Fault {
-    fn from(_refused: AllocError) -> Fault {
-        Fault::Memory
-    }
 }
 
 impl From<OutOfMemory> for Fault {

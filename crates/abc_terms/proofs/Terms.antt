@@ -65,15 +65,6 @@ out_compound ts = ap out-Term (sym (rolls-Compound ts)) ∙ out-roll-Term (Term-
 pub variable_in : (n : ℕ) (a : VarId) → IsVariable n (term.Var a) → a.0 < n
 variable_in n a h = subst (λ f. IsVariableForm n f) (out_var a) h
 
-pub node_var : (n : ℕ) (a : VarId) → IsNode n (term.Var a) → a.0 < n
-node_var n a h = subst (λ f. IsNodeForm n f) (out_var a) h
-
-pub node_list : (n : ℕ) (t : Term) → IsNode n (term.List t) → IsVariable n t
-node_list n t h = subst (λ f. IsNodeForm n f) (out_list t) h
-
-pub node_table : (n : ℕ) (k t : Term) → IsNode n (term.Table k t) → IsVariable n k × IsVariable n t
-node_table n k t h = subst (λ f. IsNodeForm n f) (out_table k t) h
-
 pub node_compound : (n : ℕ) (ts : List Term) → IsNode n (term.Compound ts) → (2 ≤ length ts) × All (IsVariable n) ts
 node_compound n ts h = subst (λ f. IsNodeForm n f) (out_compound ts) h
 

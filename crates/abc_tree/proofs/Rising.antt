@@ -23,9 +23,6 @@ below_then a b c = nat_list_cmp_total.trans (template_text a) (template_text b) 
 same_then : (a b c : Template) → template_cmp a b ≡ Equal → template_cmp a c ≡ template_cmp b c
 same_then a b c = nat_list_cmp_total.congr (template_text a) (template_text b) (template_text c)
 
-turned_same : (a b : Template) → template_cmp a b ≡ Equal → template_cmp b a ≡ Equal
-turned_same a b is = turned b a ∙ ap ordering_reverse is
-
 turned_more : (a b : Template) → template_cmp a b ≡ Greater → template_cmp b a ≡ Less
 turned_more a b is = turned b a ∙ ap ordering_reverse is
 

@@ -2,7 +2,6 @@
 use Rattle.std.proofs.Common.{◌≡◌, ◌≢◌, ℕ, zero, suc, ◌+◌, ◌<◌, ◌≤◌, ◌⊎◌, inl, inr, List, [], ◌∷◌, ◌++◌, length, get_or, set, sym, ◌∙◌, ap, subst, arith, refl, get_or-set_other, get_or-set_same}
 use Rattle.std.proofs.Math.ListN.{length-set, length-append, get_or-append}
 use Rattle.std.proofs.Math.Seq.{get_or-append_seam}
-use Rattle.std.proofs.lemmas.List.{get_or_past}
 use Rattle.std.proofs.lemmas.Bool.{cases_eq, cases_lt}
 use Rattle.std.proofs.lemmas.List.Elements.{All-push, All-nil, All-head, All-weaker, Contains-append_left, Contains-push, Contains-push_cases, All-contains}
 use Rattle.std.proofs.lemmas.List.Quantifiers.{all_pairs_push}
@@ -185,9 +184,6 @@ module _ (slots : List Slot) (marks : List ℕ) where
 -- past the end there is only a free class, which names none
 pub no_child : (i x : ℕ) (k : Kind) → Root Free ≡ Root k → IsChild k x → ⊥
 no_child i x k e c = let same : Free ≡ k = cc in subst (λ y. IsChild y x) (sym same) c
-
-nothing_past : (slots : List Slot) (i : ℕ) (k : Kind) (x : ℕ) → length slots ≤ i → get_or slots i (Root Free) ≡ Root k → IsChild k x → ⊥
-nothing_past slots i k x past is c = no_child i x k (sym (get_or_past slots i (Root Free) past) ∙ is) c
 
 follow_meets : (v : ℕ → Ground) (a : ℕ) (go : ℕ → ℕ) (s : Slot) → SlotHolds v (v a) s → ((b : ℕ) → v b ≡ v (go b)) → v a ≡ v (follow go a s)
 follow_meets v a go (Root k) h on = refl

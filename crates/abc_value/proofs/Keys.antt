@@ -7,7 +7,7 @@ use Rattle.abc_value.specs.Regular.{IsRegular, AllRegular, AllRegularPairs, IsOr
 use Rattle.abc_value.specs.declared.value.Entry.{Entry}
 use Rattle.abc_value.specs.View.{as_pair, entry_keys}
 use Rattle.abc_value.specs.Parts.{pairs_of, keys_of}
-use Rattle.abc_value.proofs.Rows.{listed_pairs_pairs, take_all}
+use Rattle.abc_value.proofs.Rows.{listed_pairs_pairs}
 use Rattle.abc_value.specs.Sizes.{height_of, pairs_height}
 use Rattle.abc_value.proofs.Placing.{less_not_greater, Between, between_all}
 
@@ -93,6 +93,3 @@ front_pairs_height [] zero = omega arith
 front_pairs_height [] (suc i) = omega arith
 front_pairs_height (e ∷ es) zero = omega arith
 front_pairs_height (e ∷ es) (suc i) = omega (arith, front_pairs_height es i)
-
-pub pairs_height_at_end : (es : List Entry) (i h : ℕ) → length es ≤ i → h ≡ pairs_height (pairs (map as_pair (take i es))) → h ≡ pairs_height (pairs (map as_pair es))
-pairs_height_at_end es i h l e = e ∙ ap (λ fs. pairs_height (pairs (map as_pair fs))) (take_all es i l)

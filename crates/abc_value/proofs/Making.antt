@@ -1,5 +1,5 @@
 -- A value from its parts.
-use Rattle.std.proofs.Common.{◌≡◌, ℕ, zero, suc, ◌+◌, ◌<◌, ◌≤◌, max, List, [], ◌∷◌, length, take, get_or, refl, sym, ap, ◌∙◌, subst, arith, add-one, Some, None}
+use Rattle.std.proofs.Common.{◌≡◌, ℕ, zero, suc, ◌+◌, ◌<◌, ◌≤◌, max, List, [], ◌∷◌, length, take, get_or, refl, sym, ap, subst, arith, add-one, Some, None}
 use Rattle.std.proofs.lemmas.Bool.Decides.{nat_tests}
 use Rattle.abc_num.specs.declared.limits.TheConstants.{MOST_ELEMENTS, MOST_VALUE_HEIGHT, MOST_WEIGHT}
 use Rattle.abc_value.specs.declared.faults.ValueFault.TheVariants.{TooLong}
@@ -50,9 +50,6 @@ taller xs i h k x l e p q =
     let P : ℕ → Type 0 = λ j. k ≡ trees_height (trees (take j xs)) in
     subst P (sym (add-one i)) (omega (arith, height_suc xs i x l e))
 
-pub height_at_end : (xs : List Tree) (i h : ℕ) → length xs ≤ i → h ≡ trees_height (trees (take i xs)) → h ≡ trees_height (trees xs)
-height_at_end xs i h l e = e ∙ ap (λ zs. trees_height (trees zs)) (take_all xs i l)
-
 pub heavier : (xs : List Tree) (i w : ℕ) (x : Tree) → i < length xs → x ≡ get_or xs i x → w ≡ trees_weight (trees (take i xs)) → w + weight_of x ≡ trees_weight (trees (take (i + 1) xs))
 heavier xs i w x l e p =
     let P : ℕ → Type 0 = λ j. w + weight_of x ≡ trees_weight (trees (take j xs)) in
@@ -62,9 +59,6 @@ pub one_regular_more : (xs : List Tree) (i : ℕ) (x : Tree) → i < length xs �
 one_regular_more xs i x l e r a =
     let P : ℕ → Type 0 = λ j. AllRegular (trees (take j xs)) in
     subst P (sym (add-one i)) (regular_suc xs i x l e r a)
-
-pub weight_at_end : (xs : List Tree) (i w : ℕ) → length xs ≤ i → w ≡ trees_weight (trees (take i xs)) → w ≡ trees_weight (trees xs)
-weight_at_end xs i w l e = e ∙ ap (λ zs. trees_weight (trees zs)) (take_all xs i l)
 
 pub regular_at_end : (xs : List Tree) (i : ℕ) → length xs ≤ i → AllRegular (trees (take i xs)) → AllRegular (trees xs)
 regular_at_end xs i l a = let P : List Tree → Type 0 = λ zs. AllRegular (trees zs) in subst P (take_all xs i l) a

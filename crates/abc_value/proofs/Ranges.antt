@@ -1,6 +1,6 @@
 -- Lists in order that are made at once, and ranges.
-use Rattle.std.proofs.Common.{◌≡◌, ◌≢◌, ℕ, zero, suc, ◌+◌, ◌<◌, ◌^◌, ℤ, pos, ◌*ℤ◌, List, [], ◌∷◌, ◌++◌, length, refl, sym, ap, ◌∙◌, arith, Some, None, Result, Ok, Err, inl, inr, ◌⊎◌, add-one}
-use Rattle.std.specs.Prelude.{◌+ℤ◌, ◌-ℤ◌, ◌<ℤ◌, unsigned_abs, IfOk}
+use Rattle.std.proofs.Common.{◌≡◌, ℕ, zero, suc, ◌+◌, ◌<◌, ◌^◌, ℤ, pos, ◌*ℤ◌, List, [], ◌∷◌, ◌++◌, length, refl, sym, ap, ◌∙◌, arith, Some, None, Err, inl, inr, add-one}
+use Rattle.std.specs.Prelude.{◌+ℤ◌, ◌-ℤ◌, ◌<ℤ◌, unsigned_abs}
 use Rattle.std.specs.declared.cmp.Ordering.TheVariants.{Less, Equal}
 use Rattle.std.specs.Ordering.{nat_cmp, ordering_then}
 use Rattle.std.proofs.lemmas.Int.{ints, to_z-of_z}
@@ -11,11 +11,10 @@ use Rattle.std.proofs.lemmas.Bool.Decides.{nat_tests}
 use Rattle.abc_num.specs.declared.limits.TheConstants.{MOST_ELEMENTS}
 use Rattle.abc_num.specs.Number.{Fraction, IsNumber, whole_number, whole_of}
 use Rattle.abc_num.proofs.Order.{is_less, whole_of-some}
-use Rattle.abc_value.specs.declared.faults.ValueFault.{ValueFault}
-use Rattle.abc_value.specs.declared.faults.ValueFault.TheVariants.{NoElement, NoKey, OutOfRange, NotWhole, TooLong, TooDeep, TooLarge, Memory}
+use Rattle.abc_value.specs.declared.faults.ValueFault.TheVariants.{TooLong}
 use Rattle.abc_value.specs.Tree.{Tree, number, text, list, trees}
 use Rattle.abc_value.specs.Order.{order}
-use Rattle.abc_value.specs.Sizes.{count, height_of, weight_of, trees_height, trees_weight, sizes_fault, size_fault, IsMakingOf}
+use Rattle.abc_value.specs.Sizes.{count, height_of, weight_of, trees_height, trees_weight, sizes_fault, size_fault}
 use Rattle.abc_value.specs.Regular.{IsRegular, AllRegular, IsOrdered}
 use Rattle.abc_value.specs.Items.{IsAnswer, if_small, by_fault, numbers_from, characters_from, count_of}
 use Rattle.abc_value.proofs.Rows.{count_trees}
@@ -37,27 +36,6 @@ list_invariant xs h w o a p q small =
     let s : AreSmall (length xs) h w = small_sizes (length xs) h w small in
     let n = count_trees xs in
     (p, q, ((omega (arith, s.long), omega (arith, s.high), omega (arith, s.heavy)), o, a))
-
-is_memory : (f : ValueFault) → (f ≡ Memory) ⊎ (f ≢ Memory)
-is_memory Memory = inl refl
-is_memory NoElement = inr (λ e. cc)
-is_memory NoKey = inr (λ e. cc)
-is_memory OutOfRange = inr (λ e. cc)
-is_memory NotWhole = inr (λ e. cc)
-is_memory TooLong = inr (λ e. cc)
-is_memory TooDeep = inr (λ e. cc)
-is_memory TooLarge = inr (λ e. cc)
-
--- making a value answers it, or the fault of its size
-pub made_answer : (t : Tree) (r : Result Tree ValueFault) → IfOk r (λ v. v ≡ t) → IsMakingOf t r → IsAnswer (if_small t) r
-made_answer t (Ok v) h m = inl (ap Ok h ∙ ap (by_fault t) (sym m))
-made_answer t (Err f) h m = by_kind t f m
-  where
-    by_kind : (t : Tree) (f : ValueFault) → (f ≢ Memory → size_fault t ≡ Some f) → IsAnswer (if_small t) (Err f)
-    by_kind t f m = elim (is_memory f) [
-      | inl e ↦ inr (ap Err e)
-      | inr n ↦ inl (ap (by_fault t) (sym (m n)))
-    ]
 
 -- ---- numbers
 pub numbers_length : (p : ℤ) (n : ℕ) → length (numbers_from p n) ≡ n

@@ -100,19 +100,10 @@ common_none : (ts : Trees) → common None ts ≡ None
 common_none no_trees = refl
 common_none (more t ts) = common_none ts
 
-joined_none : (o : Option Form) → joined o None ≡ None
-joined_none None = refl
-joined_none (Some s) = refl
-
 common_step : (o : Option Form) (xs : List Tree) (i : ℕ) (x : Tree) → i < length xs → x ≡ get_or xs i x → common o (trees (drop i xs)) ≡ common (joined o (form_of x)) (trees (drop (suc i) xs))
 common_step o [] i x h e = absurd (omega arith)
 common_step o (y ∷ ys) zero x h e = ap (λ z. common (joined o (form_of z)) (trees ys)) (sym e)
 common_step o (y ∷ ys) (suc i) x h e = common_step o ys i x (omega arith) e
-
-pub common_turn : (w : Option Form) (xs : List Tree) (all f next : Form) (i : ℕ) (x : Tree) → w ≡ common (Some all) (trees (drop i xs)) → i < length xs → x ≡ get_or xs i x → Some f ≡ form_of x → Some next ≡ join all f → w ≡ common (Some next) (trees (drop (i + 1) xs))
-common_turn w xs all f next i x inv h e found met =
-    inv ∙ common_step (Some all) xs i x h e ∙ ap (λ o. common (joined (Some all) o) (trees (drop (suc i) xs))) (sym found) ∙ ap (λ o. common o (trees (drop (suc i) xs))) (sym met)
-    ∙ ap (λ j. common (Some next) (trees (drop j xs))) (sym (add-one i))
 
 pub common_stop : (w : Option Form) (xs : List Tree) (all : Form) (i : ℕ) (x : Tree) → w ≡ common (Some all) (trees (drop i xs)) → i < length xs → x ≡ get_or xs i x → None ≡ joined (Some all) (form_of x) → None ≡ w
 common_stop w xs all i x inv h e found =
@@ -129,9 +120,6 @@ common_end o [] zero h = refl
 common_end o [] (suc i) h = refl
 common_end o (x ∷ xs) zero h = absurd (omega arith)
 common_end o (x ∷ xs) (suc i) h = common_end o xs i (omega arith)
-
-pub common_done : (w : Option Form) (xs : List Tree) (all : Form) (i : ℕ) → w ≡ common (Some all) (trees (drop i xs)) → length xs ≤ i → Some all ≡ w
-common_done w xs all i inv h = sym (inv ∙ common_end (Some all) xs i h)
 
 -- the first element may be joined to what is known of nothing
 pub from_anything : (o : Option Form) → joined (Some anything) o ≡ o
