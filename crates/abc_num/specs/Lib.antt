@@ -1,4 +1,5 @@
 pub mod formers
+pub mod Limits
 pub mod Literal
 pub mod Names
 pub mod Number

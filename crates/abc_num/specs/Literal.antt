@@ -44,7 +44,7 @@ literal_numerator b = digits_value (in_front b) * 10 ^ length (behind b) + digit
 abbrev pub literal_denominator : List ℕ → ℕ
 literal_denominator b = 10 ^ length (behind b)
 
--- top / bottom is the fraction that these decimals spell, in lowest terms
+-- top / bottom is the fraction that these decimals spell, in lowest terms, with a denominator of at most 63 bits
 pub record SpellsFraction (b : List ℕ) (top bottom : ℕ) : Type 0 where
   pub lowest : IsGcd top bottom 1
   pub proper : top < bottom

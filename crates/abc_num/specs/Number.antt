@@ -25,7 +25,7 @@ IsProper f =
 unfoldable pub IsNumber : Fraction → Type 0
 IsNumber f = IsWhole f ⊎ IsProper f
 
--- what holds of the sizes of a number's numerator and denominator
+-- the sizes of a number's numerator and denominator: `IsNumber` in other words, for the code
 pub record AreParts (top bottom : ℕ) : Type 0 where
   pub lowest : IsGcd top bottom 1
   pub positive : 0 < bottom

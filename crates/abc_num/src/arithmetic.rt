@@ -131,7 +131,8 @@ fn rest(x: Parts, y: Parts) -> Result<Num, NumFault>
     lowest(y.negative, divisor - size, x.bottom * y.bottom)
 }
 
-/// The rest of `x` by a `y` that is further from 0 and whole, where their denominators make more than 128 bits.
+/// The rest of `x` by a `y` that is further from 0 and whole, where the size of `y` over the denominator of `x` has more than 128
+/// bits.
 fn far_rest(x: Parts, y: Parts) -> Result<Num, NumFault>
     requires left { AreParts x.top x.bottom }
     requires right { AreParts y.top y.bottom }

@@ -1,4 +1,5 @@
 //! The limits of the product. Each is the greatest that is allowed, unless its name says otherwise.
+ghost use Rattle.abc_num.specs.Limits.{UnitsAreLimited, TreesAreLimited, ValuesAreLimited, RunsAreLimited};
 
 /// Units of a workspace.
 pub const MOST_UNITS: usize = 4_096;
@@ -80,3 +81,11 @@ pub const LEAST_MADE: u32 = 1;
 
 /// The greatest input that is made.
 pub const MOST_MADE: u32 = 10_000;
+
+/// The limits have these values.
+pub fn limits_are_so()
+    ensures units { UnitsAreLimited }
+    ensures trees { TreesAreLimited }
+    ensures values { ValuesAreLimited }
+    ensures runs { RunsAreLimited }
+{}

@@ -1,7 +1,7 @@
 //! Types without variables.
 use crate::{Boxed, Items};
 
-/// What each value has one of, or several where it is `{}`.
+/// A type. A value has one, several where it is or holds `{}`, or none, as a list of a number and a text.
 #[derive(Debug, Drop)]
 pub enum Ground {
     Number,

@@ -49,6 +49,21 @@ pub record NoneFell (old new : Outside) : Type 0 where
   pub store_faults : old.store_faults ≤ new.store_faults
   pub sink_faults : old.sink_faults ≤ new.sink_faults
 
+-- of the counts of faults, only that of the input may have changed
+pub record OnlyInputFailed (old new : Outside) : Type 0 where
+  pub store_faults : new.store_faults ≡ old.store_faults
+  pub sink_faults : new.sink_faults ≡ old.sink_faults
+
+-- only that of the store
+pub record OnlyStoreFailed (old new : Outside) : Type 0 where
+  pub input_faults : new.input_faults ≡ old.input_faults
+  pub sink_faults : new.sink_faults ≡ old.sink_faults
+
+-- only that of the sink
+pub record OnlySinkFailed (old new : Outside) : Type 0 where
+  pub input_faults : new.input_faults ≡ old.input_faults
+  pub store_faults : new.store_faults ≡ old.store_faults
+
 -- nothing is pending: a stop now leaves the image as it reads
 abbrev pub IsStill : {H : Type 0} (clock : H → ℕ) (stopped : H → ℕ → List ℕ → List ℕ → Type 0) → H → List ℕ → Type 0
 IsStill clock stopped host image = (c s : List ℕ) → stopped host (clock host) c s → c ≡ image

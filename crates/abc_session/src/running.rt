@@ -7,7 +7,7 @@ ghost use Rattle.abc_journal.specs.Journal.{BeginsQuiet};
 ghost use Rattle.abc_session.specs.Asking.{Asked};
 ghost use Rattle.abc_session.specs.Workspace.{opens};
 ghost use Rattle.abc_session.specs.Session.{Work, after, replies};
-ghost use Rattle.abc_session.specs.Serving.{OpensTo, works, IsSessionPoint, NoneFell, IsStill};
+ghost use Rattle.abc_session.specs.Serving.{OpensTo, works, IsSessionPoint, NoneFell, IsStill, OnlyInputFailed, OnlyStoreFailed, OnlySinkFailed};
 ghost use Rattle.abc_session.specs.Settled.{AsksSettled, IsWaiting};
 ghost use Rattle.abc_session.specs.Run.{store_named, IsStart, items_in, IsComplete, IsUntouched, chose, IsStatus, IsRunStatus, NoneRose};
 
@@ -57,6 +57,9 @@ fn run_store<H: Host>(alloc: Global, host: &mut H, b: &Bounds) -> u8
     ensures input_fault { result ≡ INPUT_FAULT → Rose (H.now host.old).input_faults (H.now host.new).input_faults }
     ensures store_fault { result ≡ STORE_FAULT → Rose (H.now host.old).store_faults (H.now host.new).store_faults }
     ensures sink_fault { result ≡ SINK_FAULT → Rose (H.now host.old).sink_faults (H.now host.new).sink_faults }
+    ensures input_alone { result ≡ INPUT_FAULT → OnlyInputFailed (H.now host.old) (H.now host.new) }
+    ensures store_alone { result ≡ STORE_FAULT → OnlyStoreFailed (H.now host.old) (H.now host.new) }
+    ensures sink_alone { result ≡ SINK_FAULT → OnlySinkFailed (H.now host.old) (H.now host.new) }
     ensures faultless { ((result ≡ COMPLETE) ⊎ (result ≡ NOT_A_STORE) ⊎ (result ≡ MEMORY) ⊎ (result ≡ INPUT_TOO_LONG)) → IsFaultless (H.now host.old) (H.now host.new) }
     ensures not_a_store { H.tells_image → result ≡ NOT_A_STORE → (at : ℕ) × (opens (H.now host.old).image ≡ Err at) }
     ensures untouched { H.tells_image → (at : ℕ) → opens (H.now host.old).image ≡ Err at → IsUntouched (H.now host.old) (H.now host.new) }
@@ -116,6 +119,9 @@ pub fn run_within<H: Host>(alloc: Global, words: &[&str], host: &mut H, b: &Boun
     ensures input_fault { result ≡ INPUT_FAULT → Rose (H.now host.old).input_faults (H.now host.new).input_faults }
     ensures store_fault { result ≡ STORE_FAULT → Rose (H.now host.old).store_faults (H.now host.new).store_faults }
     ensures sink_fault { result ≡ SINK_FAULT → Rose (H.now host.old).sink_faults (H.now host.new).sink_faults }
+    ensures input_alone { result ≡ INPUT_FAULT → OnlyInputFailed (H.now host.old) (H.now host.new) }
+    ensures store_alone { result ≡ STORE_FAULT → OnlyStoreFailed (H.now host.old) (H.now host.new) }
+    ensures sink_alone { result ≡ SINK_FAULT → OnlySinkFailed (H.now host.old) (H.now host.new) }
     ensures faultless { ((result ≡ COMPLETE) ⊎ (result ≡ NOT_A_STORE) ⊎ (result ≡ MEMORY) ⊎ (result ≡ INPUT_TOO_LONG)) → IsFaultless (H.now host.old) (H.now host.new) }
     ensures not_a_store { H.tells_image → result ≡ NOT_A_STORE → (at : ℕ) × (opens (H.now host.old).image ≡ Err at) }
     ensures refused { H.tells_image → (at : ℕ) → opens (H.now host.old).image ≡ Err at → (result ≡ NOT_A_STORE) ⊎ (result ≡ USAGE) ⊎ (result ≡ INPUT_FAULT) ⊎ (result ≡ STORE_FAULT) ⊎ (result ≡ MEMORY) }
@@ -182,6 +188,9 @@ pub fn run<H: Host>(alloc: Global, words: &[&str], host: &mut H) -> u8
     ensures input_fault { result ≡ INPUT_FAULT → Rose (H.now host.old).input_faults (H.now host.new).input_faults }
     ensures store_fault { result ≡ STORE_FAULT → Rose (H.now host.old).store_faults (H.now host.new).store_faults }
     ensures sink_fault { result ≡ SINK_FAULT → Rose (H.now host.old).sink_faults (H.now host.new).sink_faults }
+    ensures input_alone { result ≡ INPUT_FAULT → OnlyInputFailed (H.now host.old) (H.now host.new) }
+    ensures store_alone { result ≡ STORE_FAULT → OnlyStoreFailed (H.now host.old) (H.now host.new) }
+    ensures sink_alone { result ≡ SINK_FAULT → OnlySinkFailed (H.now host.old) (H.now host.new) }
     ensures faultless { ((result ≡ COMPLETE) ⊎ (result ≡ NOT_A_STORE) ⊎ (result ≡ MEMORY) ⊎ (result ≡ INPUT_TOO_LONG)) → IsFaultless (H.now host.old) (H.now host.new) }
     ensures not_a_store { H.tells_image → result ≡ NOT_A_STORE → (at : ℕ) × (opens (H.now host.old).image ≡ Err at) }
     ensures refused { H.tells_image → (at : ℕ) → opens (H.now host.old).image ≡ Err at → (result ≡ NOT_A_STORE) ⊎ (result ≡ USAGE) ⊎ (result ≡ INPUT_FAULT) ⊎ (result ≡ STORE_FAULT) ⊎ (result ≡ MEMORY) }

@@ -8,7 +8,7 @@ ghost use Rattle.abc_session.specs.Reading.{shown};
 ghost use Rattle.abc_session.specs.Reply.{missing_reply};
 ghost use Rattle.abc_session.specs.Targets.{IsNumber};
 ghost use Rattle.abc_session.specs.Session.{Outcome, outcome, outcome_of, with_source, put_outcome};
-ghost use Rattle.abc_session.specs.Serving.{work_of, Holds, OpensTo, IsItemStop, KeepsInput};
+ghost use Rattle.abc_session.specs.Serving.{work_of, Holds, OpensTo, IsItemStop, KeepsInput, OnlyStoreFailed, OnlySinkFailed};
 ghost use Rattle.abc_outside.specs.Session.{IsInCommit};
 
 use crate::command::{Command, Source, command_in};
@@ -186,6 +186,8 @@ pub(crate) fn serve_item<H: Host>(
     ensures memory { IsErrOf result ServeStop.Memory → host.new ≡ host.old }
     ensures store_fault { IsErrOf result ServeStop.StoreFault → Rose (H.now host.old).store_faults (H.now host.new).store_faults }
     ensures sink_fault { IsErrOf result ServeStop.SinkFault → Rose (H.now host.old).sink_faults (H.now host.new).sink_faults }
+    ensures store_alone { IsErrOf result ServeStop.StoreFault → OnlyStoreFailed (H.now host.old) (H.now host.new) }
+    ensures sink_alone { IsErrOf result ServeStop.SinkFault → OnlySinkFailed (H.now host.old) (H.now host.new) }
     ensures faultless { OnOk result (IsFaultless (H.now host.old) (H.now host.new)) }
 
     ensures holds { H.tells_image → (IsOk result ⊎ IsErrOf result ServeStop.SinkFault) → Holds (H.now host.new).image (work_of store.new) }

@@ -6,7 +6,7 @@ ghost use Rattle.abc_outside.specs.Session.{joined, HasServed};
 ghost use Rattle.abc_session.specs.Lines.{items_of, lines_of};
 ghost use Rattle.abc_session.specs.Reading.{lines_left, used_of};
 ghost use Rattle.abc_session.specs.Session.{Work, after, replies};
-ghost use Rattle.abc_session.specs.Serving.{work_of, works, Holds, IsSessionPoint, NoneFell};
+ghost use Rattle.abc_session.specs.Serving.{work_of, works, Holds, IsSessionPoint, NoneFell, OnlyInputFailed, OnlyStoreFailed, OnlySinkFailed};
 ghost use Rattle.abc_outside.specs.Session.{IsBetween, IsBroken, IsCutShort};
 ghost use Rattle.abc_outside.specs.Stop.{Now};
 ghost use Rattle.abc_session.specs.Asking.{Asked};
@@ -84,6 +84,9 @@ fn turn<H: Host>(
     ensures input_fault { IsErrOf result SessionStop.Input → Rose (H.now host.old).input_faults (H.now host.new).input_faults }
     ensures store_fault { IsErrOf result SessionStop.StoreFault → Rose (H.now host.old).store_faults (H.now host.new).store_faults }
     ensures sink_fault { IsErrOf result SessionStop.SinkFault → Rose (H.now host.old).sink_faults (H.now host.new).sink_faults }
+    ensures input_alone { IsErrOf result SessionStop.Input → OnlyInputFailed (H.now host.old) (H.now host.new) }
+    ensures store_alone { IsErrOf result SessionStop.StoreFault → OnlyStoreFailed (H.now host.old) (H.now host.new) }
+    ensures sink_alone { IsErrOf result SessionStop.SinkFault → OnlySinkFailed (H.now host.old) (H.now host.new) }
     ensures faultless { OnOk result (IsFaultless (H.now host.old) (H.now host.new)) }
     ensures stop_faultless { (IsErrOf result SessionStop.Memory ⊎ IsErrOf result SessionStop.Long) → IsFaultless (H.now host.old) (H.now host.new) }
     ensures long { IsErrOf result SessionStop.Long → reader.new.taken ≡ reader.new.bound }
@@ -172,6 +175,9 @@ pub(crate) fn serve_all<H: Host>(
     ensures input_fault { IsErrOf result SessionStop.Input → Rose (H.now host.old).input_faults (H.now host.new).input_faults }
     ensures store_fault { IsErrOf result SessionStop.StoreFault → Rose (H.now host.old).store_faults (H.now host.new).store_faults }
     ensures sink_fault { IsErrOf result SessionStop.SinkFault → Rose (H.now host.old).sink_faults (H.now host.new).sink_faults }
+    ensures input_alone { IsErrOf result SessionStop.Input → OnlyInputFailed (H.now host.old) (H.now host.new) }
+    ensures store_alone { IsErrOf result SessionStop.StoreFault → OnlyStoreFailed (H.now host.old) (H.now host.new) }
+    ensures sink_alone { IsErrOf result SessionStop.SinkFault → OnlySinkFailed (H.now host.old) (H.now host.new) }
     ensures faultless { OnOk result (IsFaultless (H.now host.old) (H.now host.new)) }
     ensures stop_faultless { (IsErrOf result SessionStop.Memory ⊎ IsErrOf result SessionStop.Long) → IsFaultless (H.now host.old) (H.now host.new) }
     ensures chosen { (H.now host.new).chosen ≡ (H.now host.old).chosen }
