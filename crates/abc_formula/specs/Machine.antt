@@ -1,4 +1,5 @@
--- The same reading as a machine over the tokens, one at a time. The laws say that it finds exactly the tree that is spelled.
+-- The same reading as a machine over the tokens, one at a time: steps of the code. It is proved to find exactly the tree that is spelled; no
+-- public clause speaks of it.
 use Rattle.std.specs.Prelude.{◌≡◌, ◌↔◌, ℕ, zero, suc, ◌+◌, Bool, true, false, ◌&&◌, ◌==◌, nat_le, if◌then◌else◌, List, [], ◌∷◌, ◌++◌, length, map, Option, Some, None}
 use Rattle.std.specs.List.{list_all}
 use Rattle.abc_num.specs.Number.{Fraction}
@@ -230,7 +231,7 @@ unfoldable pub run : Leaves → List (List ℕ) → List Lexeme → Next
 run leaves own [] d stack turn = at_end stack turn
 run leaves own (t ∷ ts) d stack turn = at_token leaves own t ts (run leaves own ts) d stack turn
 
--- the tree of this level in front of the tokens, as the whole says
+-- the tree of at least this level in front of the tokens, and the tokens behind it; the group says whether commas go on
 abbrev pub tree_at : ℕ → Group → Leaves → List (List ℕ) → ℕ → List Lexeme → Found
 tree_at level whole leaves own d ts = run leaves own ts d (f.Inside level whole ∷ []) (turn.Wants level)
 
@@ -257,7 +258,7 @@ lexed_by line false found = None
 lexed_by line true None = None
 lexed_by line true (Some found) = if list_all is_sound found.1 then Some (map (seen line) found.0) else None
 
--- the tokens that are computed are those of the line
+-- the law one_reading of abc_tokens
 abbrev pub ReadsTokens : Type 0
 ReadsTokens = (line : List ℕ) (ts : List Token) (ns : List (List ℕ)) → HasTokens line ts ns ↔ (scanned.scanned false (length line) line 0 ≡ Some (ts, ns))
 
@@ -265,7 +266,7 @@ ReadsTokens = (line : List ℕ) (ts : List Token) (ns : List (List ℕ)) → Has
 unfoldable pub lexed : List ℕ → Option (List Lexeme)
 lexed line = lexed_by line (has_characters line) (scanned.scanned false (length line) line 0)
 
--- what stands up to the first backquote that has tokens before it, and what was passed already
+-- the first front, at least as long as what was passed, that has tokens and a backquote behind it
 unfoldable pub conversion_from : List ℕ → List ℕ → Option (List ℕ)
 conversion_from passed [] = None
 conversion_from passed (b ∷ bytes) = if (b == byte.backquote) && is_some (lexed passed) then Some passed else conversion_from (passed ++ b ∷ []) bytes

@@ -24,7 +24,7 @@ abbrev pub with_found : Found → List Part → List Part
 with_found (found.Character c) parts = with_character c parts
 with_found (found.Conversion inner) parts = part.Conversion inner ∷ parts
 
--- the first of the bytes, and what the others are
+-- what stands first in the rest of a text: its last quote, what no text may have, or a part of n bytes
 abbrev pub Cuts : ℕ → List ℕ → Cut → Type 0
 Cuts q bytes cut.End = split q bytes 0 ≡ Some []
 Cuts q bytes cut.Wrong = split q bytes 0 ≡ None

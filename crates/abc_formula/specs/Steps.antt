@@ -45,6 +45,7 @@ opens (f.Between k i a ∷ stack) = opens stack
 opens (f.Before k join ∷ stack) = opens stack
 opens (f.Inside k group ∷ stack) = group_opens group + opens stack
 
+-- brackets that are open and have no frame: the { of a display before its first operand, and before and behind a key
 abbrev pub held : Turn → ℕ
 held (turn.Wants k) = 0
 held (turn.Has k m a) = 0
@@ -66,7 +67,7 @@ Gives (Err fault.BadCommand) found = found ≡ None
 Gives (Err fault.TooMany) found = ⊥
 Gives (Err fault.Memory) found = Unit {0}
 
--- what is found, or none
+-- the answer is what is found, if there was memory
 abbrev pub Quotes : {X : Type 0} → Result (Option X) FormulaFault → Option X → Type 0
 Quotes (Ok x) found = found ≡ x
 Quotes (Err fault.BadCommand) found = ⊥

@@ -200,7 +200,7 @@ mutual
     -- E1 in E2, E1 not.in E2
     member : {d : ℕ} {o : Op} {a c : Expr} {t : Lexeme} {ts us rest : List Lexeme} → is_round ts ≡ false → Spells own d 1 a ts (t ∷ us) → membership_of own t ≡ Some o
         → Spells own d 2 c us rest → Parted own d (test.Member o a c) ts rest
-    -- a predicate of one's own: name, name E7 or E1 name E2
+    -- the predicate of a unit: name, name E7 or E1 name E2
     call : {d : ℕ} {f : Template} {actuals : List Expr} {ts rest : List Lexeme} → is_round ts ≡ false → Spells own d 1 (e.Call f actuals) ts rest
         → Parted own d (test.Call (predicate f) actuals) ts rest
     -- a lone own name, which is a test refinement

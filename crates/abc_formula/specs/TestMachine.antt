@@ -1,4 +1,4 @@
--- The same reading of tests, computed. The laws say that it finds exactly the test that is spelled.
+-- The same reading of tests, computed: steps of the code. It is proved to find exactly the test that is spelled; no public clause speaks of it.
 use Rattle.std.specs.Prelude.{ℕ, zero, suc, Bool, true, false, ◌&&◌, List, [], ◌∷◌, ◌++◌, Option, None, Some, codes, if◌then◌else◌}
 use Rattle.abc_tree.specs.declared.formulas.Bound.{Bound}
 use Rattle.abc_tree.specs.declared.formulas.Bound.TheVariants as b
@@ -182,7 +182,7 @@ module _ (leaves : Leaves) (own : List (List ℕ)) where
   links_by next None d t ts = Some ([], t ∷ ts)
   links_by next (Some o) d t ts = onward (expression_of leaves own 1 d ts) (λ a rest. linked (link o a) (next d rest))
 
-  -- the relations of a chain, of so many at most; there is none where no relation stands in front
+  -- the relations of a chain, and the tokens behind them, in at most n turns; no relation in front gives an empty list
   unfoldable pub links_in : ℕ → ℕ → List Lexeme → FoundLinks
   links_in n d [] = Some ([], [])
   links_in zero d (t ∷ ts) = None
@@ -212,7 +212,7 @@ module _ (leaves : Leaves) (own : List (List ℕ)) where
   from_front next n (front.Quantifies quantifier) p d ts = quantifies next quantifier d (rest_of ts)
   from_front next n front.Tight p d ts = onward (tight next n d ts) (λ a rest. joined next d a rest (behind_of p rest))
 
-  -- the test in front of the tokens, where no more than so many tokens are read one within the other
+  -- the test in front of the tokens, in at most n turns; as many as there are tokens are always enough
   unfoldable pub test_in : ℕ → Reads
   test_in zero p d ts = None
   test_in (suc n) p d ts = from_front (test_in n) n (front_of ts) p d ts

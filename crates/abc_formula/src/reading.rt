@@ -187,7 +187,7 @@ impl Reader {
         self.wants(operand, 1)
     }
 
-    /// Where a further pair of a table display begins.
+    /// Where a pair of a table display begins.
     pub(crate) fn at_pair(
         &mut self,
         sign: Sign,

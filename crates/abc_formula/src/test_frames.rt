@@ -28,7 +28,7 @@ pub enum TestFrame {
 pub enum Front {
     Not,
     Quantifies(Quantifier),
-    /// Anything else, which is no AND, OR, NOT or quantifier.
+    /// Anything else.
     Tight,
 }
 

@@ -1,9 +1,9 @@
 -- Names in order are different names.
-use Rattle.std.proofs.Common.{◌≡◌, ◌≢◌, ℕ, ◌-◌, ◌<◌, ◌≤◌, suc, zero, List, [], ◌∷◌, ◌++◌, length, take, map, get_or, slice_set, refl, sym, ap, append_assoc, ◌∙◌, subst, arith, Bool, true, false, ◌||◌, if◌then◌else◌}
+use Rattle.std.proofs.Common.{◌≡◌, ◌≢◌, ℕ, ◌-◌, ◌<◌, suc, zero, List, [], ◌∷◌, ◌++◌, length, get_or, slice_set, refl, sym, ap, append_assoc, ◌∙◌, subst, arith, Bool, true, false, ◌||◌, if◌then◌else◌}
 use Rattle.std.specs.List.{list_any, AllByRecursion, AllZip}
 use Rattle.std.specs.List.Sorted.{IsStrictlySortedBy}
 use Rattle.std.specs.Bool.{Decides}
-use Rattle.std.specs.declared.cmp.Ordering.TheVariants.{Less, Equal}
+use Rattle.std.specs.declared.cmp.Ordering.TheVariants.{Less}
 use Rattle.std.specs.Cmp.Lexicographic.{nat_list_cmp_total}
 use Rattle.std.specs.Ordering.{ordering_reverse}
 use Rattle.std.specs.BTreeMap.{BTreeMap}
@@ -12,7 +12,7 @@ use Rattle.abc_num.specs.Names.{with_name}
 use Rattle.abc_num.proofs.Texts.{text_eq-Decides}
 use Rattle.abc_value.specs.Tree.{Tree}
 use Rattle.abc_frames.specs.View.{frames_of}
-use Rattle.abc_frames.specs.Maps.{current, with_current}
+use Rattle.abc_frames.specs.Maps.{IsRising, current, with_current}
 
 in_both : (x t : List ℕ) (xs ys : List (List ℕ)) → AllByRecursion (λ y. text_cmp x y ≡ Less) (xs ++ t ∷ ys) → text_cmp x t ≡ Less
 in_both x t [] ys a = a.0
@@ -69,14 +69,14 @@ changed_current ms fs n m f is e same =
     let count : n ≡ length fs = e ∙ sym (frames_length ms) ∙ ap length is in
     frames_set ms (n - 1) m ∙ (λ i. slice_set (is i) (count i - 1) (same i))
 
+not_none : (ms : List (BTreeMap ℕ Tree)) (fs : List (List (ℕ × Tree))) → frames_of ms ≡ fs → fs ≢ [] → 0 < length ms
+not_none [] fs is some = absurd (some (sym is))
+not_none (m ∷ ms) fs is some = omega arith
+
 pub current_is : (ms : List (BTreeMap ℕ Tree)) (fs : List (List (ℕ × Tree))) (n : ℕ) (d : BTreeMap ℕ Tree) → frames_of ms ≡ fs → n ≡ length ms → fs ≢ [] → (get_or ms (n - 1) d).entries ≡ current fs
 current_is ms fs n d is e some =
     let count : n ≡ length fs = e ∙ sym (frames_length ms) ∙ ap length is in
     sym (frames_at ms (n - 1) d (omega (arith, not_none ms fs is some))) ∙ (λ i. get_or (is i) (count i - 1) [])
-  where
-    not_none : (ms : List (BTreeMap ℕ Tree)) (fs : List (List (ℕ × Tree))) → frames_of ms ≡ fs → fs ≢ [] → 0 < length ms
-    not_none [] fs is some = absurd (some (sym is))
-    not_none (m ∷ ms) fs is some = omega arith
 
 -- what stands there may be written back
 pub unchanged_current : (ms : List (BTreeMap ℕ Tree)) (fs : List (List (ℕ × Tree))) (n : ℕ) (m d : BTreeMap ℕ Tree) → frames_of ms ≡ fs → n ≡ length ms → fs ≢ [] → m.entries ≡ (get_or ms (n - 1) d).entries → frames_of (slice_set ms (n - 1) m) ≡ fs
@@ -86,6 +86,26 @@ unchanged_current ms fs n m d is e some same =
     set_last : (fs : List (List (ℕ × Tree))) → fs ≢ [] → with_current (current fs) fs ≡ fs
     set_last [] some = absurd (some refl)
     set_last (f ∷ fs) some = set_same (f ∷ fs) (length (f ∷ fs) - 1) (omega arith)
+
+length_set : (ms : List (BTreeMap ℕ Tree)) (i : ℕ) (m : BTreeMap ℕ Tree) → length (slice_set ms i m) ≡ length ms
+length_set [] i m = refl
+length_set (n ∷ ns) zero m = refl
+length_set (n ∷ ns) (suc i) m = ap suc (length_set ns i m)
+
+at_set : (ms : List (BTreeMap ℕ Tree)) (i : ℕ) (m : BTreeMap ℕ Tree) → i < length ms → get_or (slice_set ms i m) i m ≡ m
+at_set [] i m h = absurd (omega arith)
+at_set (n ∷ ns) zero m h = refl
+at_set (n ∷ ns) (suc i) m h = at_set ns i m (omega arith)
+
+-- a map in order that takes the place of the last is the current frame, in order
+pub rising_current : (ms : List (BTreeMap ℕ Tree)) (fs : List (List (ℕ × Tree))) (n : ℕ) (m : BTreeMap ℕ Tree) → frames_of ms ≡ fs → n ≡ length ms → fs ≢ [] → IsRising m.entries → IsRising (current (frames_of (slice_set ms (n - 1) m)))
+rising_current ms fs n m is e some rising =
+    let set = slice_set ms (n - 1) m in
+    let count : length (frames_of set) ≡ n = frames_length set ∙ length_set ms (n - 1) m ∙ sym e in
+    let below : n - 1 < length ms = omega (arith, not_none ms fs is some) in
+    let within : n - 1 < length set = omega (arith, length_set ms (n - 1) m) in
+    let last : current (frames_of set) ≡ m.entries = ap (λ k. get_or (frames_of set) (k - 1) []) count ∙ frames_at set (n - 1) m within ∙ ap (λ b. b.entries) (at_set ms (n - 1) m below) in
+    subst IsRising (sym last) rising
 
 cloned : (ps qs : List (ℕ × Tree)) → AllZip (λ p q. (q.0 ≡ p.0) × (q.1 ≡ p.1)) ps qs → qs ≡ ps
 cloned [] [] a = refl

@@ -1,7 +1,7 @@
 -- Finite maps to values, their changes, and stacks of them.
-use Rattle.std.specs.Prelude.{◌≡◌, ℕ, ◌-◌, Bool, true, false, List, [], ◌∷◌, ◌++◌, length, take, map, slice_index_or, slice_set, Option, None, Some, if◌then◌else◌}
+use Rattle.std.specs.Prelude.{ℕ, ◌-◌, Bool, true, false, List, [], ◌∷◌, length, take, slice_index_or, slice_set, Option, None, Some, if◌then◌else◌}
 use Rattle.std.specs.List.{fold, flat_map}
-use Rattle.std.specs.declared.cmp.Ordering.{Ordering}
+use Rattle.std.specs.List.Sorted.{IsStrictlySortedBy}
 use Rattle.std.specs.Ordering.{nat_cmp, is_eq}
 use Rattle.std.specs.BTreeMap.{insert_entry, is_at}
 use Rattle.std.specs.Map.{lookup, remove_entry, keys_of}
@@ -17,6 +17,14 @@ Targets = List (List ℕ × Tree)
 -- numbers of names in order, each with its value
 abbrev pub Frame : Type 0
 Frame = List (ℕ × Tree)
+
+-- each name is less than those behind it, so none stands twice
+abbrev pub AreRising : Targets → Type 0
+AreRising targets = IsStrictlySortedBy text_cmp (keys_of targets)
+
+-- each number is less than those behind it, so none stands twice
+abbrev pub IsRising : Frame → Type 0
+IsRising frame = IsStrictlySortedBy nat_cmp (keys_of frame)
 
 -- the value of a name, where it has one
 abbrev pub value_of : List ℕ → Targets → Option Tree

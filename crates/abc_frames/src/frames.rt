@@ -1,7 +1,7 @@
 //! The names of the unit calls that are under way.
 ghost use Rattle.std.specs.Prelude.{◌≡◌, ◌≢◌, ◌∷◌, ◌++◌, [], IfOk, OnOk, OnErr};
 ghost use Rattle.std.specs.Option.{option_map};
-ghost use Rattle.abc_frames.specs.Maps.{value_at, with_value_at, without_at, current, with_current, outer};
+ghost use Rattle.abc_frames.specs.Maps.{IsRising, value_at, with_value_at, without_at, current, with_current, outer};
 
 use abc_num::OutOfMemory;
 use abc_value::Value;
@@ -90,6 +90,7 @@ impl Frames {
         requires { self.old ≢ [] }
         ensures ok { OnOk result (self.new ≡ with_current (with_value_at n v (current self.old)) self.old) }
         ensures err { OnErr result (self.new ≡ self.old) }
+        ensures rising { IsRising (current self.new) }
     {
         let last = self.frames.len() - 1;
         self.frames[last].insert(n, v)?;
@@ -103,6 +104,7 @@ impl Frames {
         ensures value { IfOk result (λ o. o ≡ value_at n (current self.old)) }
         ensures ok { OnOk result (self.new ≡ with_current (without_at n (current self.old)) self.old) }
         ensures err { OnErr result (self.new ≡ self.old) }
+        ensures rising { IsRising (current self.new) }
     {
         let last = self.frames.len() - 1;
         Ok(self.frames[last].remove(&n))

@@ -3,7 +3,7 @@ ghost use Rattle.std.specs.Prelude.{◌≡◌, [], IfOk, OnOk, OnErr};
 ghost use Rattle.std.specs.Option.{option_map};
 ghost use Rattle.std.specs.List.{flat_map};
 ghost use Rattle.std.specs.Map.{keys_of};
-ghost use Rattle.abc_frames.specs.Maps.{value_of, with_value, without, with_names, changes_of, change_of, is_same};
+ghost use Rattle.abc_frames.specs.Maps.{AreRising, value_of, with_value, without, with_names, changes_of, change_of, is_same};
 
 use abc_num::{Names, OutOfMemory, Text};
 use abc_value::Value;
@@ -80,6 +80,7 @@ impl Targets {
     pub fn set(&mut self, n: Text, v: Value) -> Result<(), OutOfMemory>
         ensures ok { OnOk result (self.new ≡ with_value n v self.old) }
         ensures err { OnErr result (self.new ≡ self.old) }
+        ensures rising { AreRising self.new }
     {
         self.values.insert(n, v)?;
         Ok(())
@@ -90,13 +91,15 @@ impl Targets {
         ensures value { IfOk result (λ o. o ≡ value_of n.now self.old) }
         ensures ok { OnOk result (self.new ≡ without n.now self.old) }
         ensures err { OnErr result (self.new ≡ self.old) }
+        ensures rising { AreRising self.new }
     {
         Ok(self.values.remove(n))
     }
 
     /// The names, in order of their bytes.
     pub fn names(&self) -> Result<Names, OutOfMemory>
-        ensures { IfOk result (λ names. names ≡ keys_of self.now) }
+        ensures names { IfOk result (λ names. names ≡ keys_of self.now) }
+        ensures rising { AreRising self.now }
     {
         let mut names = Names::new(self.alloc);
         for name in self.values.keys() {

@@ -61,11 +61,11 @@ SaysNeed (Err append.StoreFault) need limit = Unit {0}
 SaysNeed (Err append.Memory) need limit = Unit {0}
 SaysNeed (Err (append.StoreFull n l)) need limit = (n ≡ min need (2 ^ 64 - 1)) × (l ≡ limit)
 
--- the image, but perhaps longer if it is not to be replaced
+-- the image, or where it has more than 65 bytes perhaps a longer one
 abbrev pub IsAsRead : List ℕ → List ℕ → Type 0
 IsAsRead image c = (c ≡ image) ⊎ ((FRESH_BYTES < length image) × Extends image c)
 
--- a stop now leaves the image as it reads; one that is not to be replaced may be longer
+-- a stop now leaves the image as it reads; one of more than 65 bytes may be longer
 abbrev pub BeginsQuiet : {H : Type 0} (clock : H → ℕ) (stopped : H → ℕ → List ℕ → List ℕ → Type 0) → H → List ℕ → Type 0
 BeginsQuiet clock stopped host image = (c s : List ℕ) → stopped host (clock host) c s → IsAsRead image c
 

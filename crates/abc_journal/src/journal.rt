@@ -1,8 +1,8 @@
 //! The journal: what is known of an image that is open, and how a record is added to it.
-ghost use Rattle.std.specs.Prelude.{◌≡◌, ◌≤◌, ◌<◌, ◌↔◌, ◌⊎◌, ◌++◌, true, false, [], ◌∷◌, List, ℕ, length, Ok, Err, IfOk, OnOk, IsErrOf, IsTrue};
-ghost use Rattle.abc_outside.specs.Outside.{Rose, KeepsButStore};
-ghost use Rattle.abc_outside.specs.Stop.{Leaves, IsQuiet};
-ghost use Rattle.abc_journal.specs.Image.{opened, payloads_of, settled_image};
+ghost use Rattle.std.specs.Prelude.{◌≡◌, ◌≤◌, ◌<◌, ◌+◌, ◌↔◌, ◌⊎◌, ◌++◌, true, false, [], ◌∷◌, List, ℕ, length, Ok, Err, IfOk, OnOk, IsErrOf, IsTrue};
+ghost use Rattle.abc_outside.specs.Outside.{RoseByOne, KeepsButStore};
+ghost use Rattle.abc_outside.specs.Stop.{written, Leaves, IsQuiet};
+ghost use Rattle.abc_journal.specs.Image.{opened, payloads_of, settled_image, behind_gate};
 ghost use Rattle.abc_journal.specs.Journal.{HasLayout, need_of, after_record, IfNotAStore, IsNotAStore, IsNoFault, IsFull, SaysNeed, BeginsQuiet, IsSame, IsBeforeOrAfter};
 
 use crate::format::{FRESH_BYTES, OPEN};
@@ -49,7 +49,7 @@ impl Journal {
         ensures image { H.tells_image → OnOk result ((H.now host.new).image ≡ settled_image (H.now host.old).image) }
 
         ensures refused { H.tells_image → IfNotAStore result (λ at. opened (H.now host.old).image ≡ Err at) }
-        ensures fault { IsErrOf result BeginFault.StoreFault → Rose (H.now host.old).store_faults (H.now host.new).store_faults }
+        ensures fault { IsErrOf result BeginFault.StoreFault → RoseByOne (H.now host.old).store_faults (H.now host.new).store_faults }
         ensures faultless { OnOk result ((H.now host.new).store_faults ≡ (H.now host.old).store_faults) }
         ensures refused_faultless { (IsNotAStore result ⊎ IsErrOf result BeginFault.Memory) → (H.now host.new).store_faults ≡ (H.now host.old).store_faults }
 
@@ -125,10 +125,12 @@ impl Journal {
         ensures moved { OnOk result (self.new.layout ≡ after_record self.old.layout (length payload.now)) }
         ensures layout { H.tells_image → OnOk result (HasLayout (H.now host.new).image self.new.layout) }
         ensures durable { H.tells_image → OnOk result (IsQuiet H.clock H.stopped host.new (H.now host.new).image) }
+        ensures bytes { H.tells_image → OnOk result ((H.now host.new).image
+            ≡ written (written (H.now host.old).image (self.old.layout.gate + 1) (behind_gate payload.now)) self.old.layout.gate (OPEN ∷ [])) }
 
         ensures full { IsFull result ↔ (self.old.bounds.image < need_of self.old.layout (length payload.now)) }
         ensures need { SaysNeed result (need_of self.old.layout (length payload.now)) self.old.bounds.image }
-        ensures fault { IsErrOf result AppendFault.StoreFault → Rose (H.now host.old).store_faults (H.now host.new).store_faults }
+        ensures fault { IsErrOf result AppendFault.StoreFault → RoseByOne (H.now host.old).store_faults (H.now host.new).store_faults }
         ensures faultless { OnOk result ((H.now host.new).store_faults ≡ (H.now host.old).store_faults) }
 
         ensures rest { KeepsButStore (H.now host.old) (H.now host.new) }

@@ -1,6 +1,6 @@
 //! Opening: a short image is made fresh, a longer one is read.
 ghost use Rattle.std.specs.Prelude.{◌≡◌, ◌≤◌, ◌<◌, ◌⊎◌, List, ℕ, length, Ok, Err, IfOk, OnOk, OnErr, IsErrOf, IsTrue, ◌↔◌, drop, ◌+◌};
-ghost use Rattle.abc_outside.specs.Outside.{Rose, KeepsButStore};
+ghost use Rattle.abc_outside.specs.Outside.{RoseByOne, KeepsButStore};
 ghost use Rattle.abc_outside.specs.Stop.{Torn, Leaves};
 ghost use Rattle.abc_journal.specs.Image.{fresh_image, opened_at, read_image as reads};
 ghost use Rattle.abc_journal.specs.Journal.{IfNotAStore, IsNotAStore};
@@ -33,7 +33,7 @@ fn is_fresh<H: Host>(host: &mut H, size: u64) -> Result<bool, Failed>
     ensures rest { KeepsButStore (H.now host.old) (H.now host.new) }
     ensures stops { Leaves H.clock H.stopped host.old host.new (H.stopped host.old (H.clock host.old)) }
     ensures now { (c s : List ℕ) → H.stopped host.new (H.clock host.new) c s → H.stopped host.old (H.clock host.old) c s }
-    ensures cause { OnErr result (Rose (H.now host.old).store_faults (H.now host.new).store_faults) }
+    ensures cause { OnErr result (RoseByOne (H.now host.old).store_faults (H.now host.new).store_faults) }
     ensures faultless { OnOk result ((H.now host.new).store_faults ≡ (H.now host.old).store_faults) }
 {
     if size != FRESH_BYTES as u64 {
@@ -53,7 +53,7 @@ pub fn settle<H: Host>(host: &mut H, size: u64) -> Result<(), Failed>
         → (H.stopped host.old (H.clock host.old) c s × ((H.now host.old).image ≡ fresh_image)) ⊎ (c ≡ fresh_image)) }
     ensures stops { Leaves H.clock H.stopped host.old host.new (λ c s. (d : List ℕ) × H.stopped host.old (H.clock host.old) d s × Torn 0 FRESH_BYTES d c) }
     ensures rest { KeepsButStore (H.now host.old) (H.now host.new) }
-    ensures cause { OnErr result (Rose (H.now host.old).store_faults (H.now host.new).store_faults) }
+    ensures cause { OnErr result (RoseByOne (H.now host.old).store_faults (H.now host.new).store_faults) }
     ensures faultless { OnOk result ((H.now host.new).store_faults ≡ (H.now host.old).store_faults) }
 {
     if is_fresh(host, size)? {
@@ -98,7 +98,7 @@ fn read_from<H: Host>(
     ensures rest { KeepsButStore (H.now host.old) (H.now host.new) }
     ensures stops { Leaves H.clock H.stopped host.old host.new (H.stopped host.old (H.clock host.old)) }
     ensures now { (c s : List ℕ) → H.stopped host.new (H.clock host.new) c s → H.stopped host.old (H.clock host.old) c s }
-    ensures fault { IsErrOf result BeginFault.StoreFault → Rose (H.now host.old).store_faults (H.now host.new).store_faults }
+    ensures fault { IsErrOf result BeginFault.StoreFault → RoseByOne (H.now host.old).store_faults (H.now host.new).store_faults }
     ensures faultless { OnOk result ((H.now host.new).store_faults ≡ (H.now host.old).store_faults) }
     ensures refused_faultless { (IsNotAStore result ⊎ IsErrOf result BeginFault.Memory) → (H.now host.new).store_faults ≡ (H.now host.old).store_faults }
 {
@@ -121,7 +121,7 @@ pub fn read_image<H: Host>(
     ensures rest { KeepsButStore (H.now host.old) (H.now host.new) }
     ensures stops { Leaves H.clock H.stopped host.old host.new (H.stopped host.old (H.clock host.old)) }
     ensures now { (c s : List ℕ) → H.stopped host.new (H.clock host.new) c s → H.stopped host.old (H.clock host.old) c s }
-    ensures fault { IsErrOf result BeginFault.StoreFault → Rose (H.now host.old).store_faults (H.now host.new).store_faults }
+    ensures fault { IsErrOf result BeginFault.StoreFault → RoseByOne (H.now host.old).store_faults (H.now host.new).store_faults }
     ensures faultless { OnOk result ((H.now host.new).store_faults ≡ (H.now host.old).store_faults) }
     ensures refused_faultless { (IsNotAStore result ⊎ IsErrOf result BeginFault.Memory) → (H.now host.new).store_faults ≡ (H.now host.old).store_faults }
 {

@@ -1,6 +1,6 @@
 //! Writing to the store so that it stays.
 ghost use Rattle.std.specs.Prelude.{◌≡◌, ◌≤◌, List, ℕ, length, IfOk, OnOk, OnErr};
-ghost use Rattle.abc_outside.specs.Outside.{Rose, KeepsButStore};
+ghost use Rattle.abc_outside.specs.Outside.{RoseByOne, KeepsButStore};
 ghost use Rattle.abc_outside.specs.Stop.{written, Torn, Leaves};
 ghost use Rattle.abc_journal.specs.Image.{behind_gate};
 
@@ -14,7 +14,7 @@ pub fn write_through<H: Host>(host: &mut H, at: u64, bytes: &[u8]) -> Result<(),
     ensures durable { OnOk result ((c s : List ℕ) → H.stopped host.new (H.clock host.new) c s → c ≡ (H.now host.new).image) }
     ensures stops { Leaves H.clock H.stopped host.old host.new (λ c s. (d : List ℕ) × H.stopped host.old (H.clock host.old) d s × Torn at (length bytes.now) d c) }
     ensures rest { KeepsButStore (H.now host.old) (H.now host.new) }
-    ensures cause { OnErr result (Rose (H.now host.old).store_faults (H.now host.new).store_faults) }
+    ensures cause { OnErr result (RoseByOne (H.now host.old).store_faults (H.now host.new).store_faults) }
     ensures faultless { OnOk result ((H.now host.new).store_faults ≡ (H.now host.old).store_faults) }
 {
     host.write_at(at, bytes)?;

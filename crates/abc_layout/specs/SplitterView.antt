@@ -10,7 +10,7 @@ pub record Open : Type 0 where
   pub unit : Bool
   pub lines : List Line
 
--- the lines that mean something
+-- the lines that aren't blank, as an item keeps them
 abbrev pub kept : List RawLine → List Line
 kept [] = []
 kept (line ∷ lines) = if is_blank line then kept lines else line_of line ∷ kept lines

@@ -16,7 +16,7 @@ number_of Cut = 5
 number_of Sync = 6
 number_of Say = 7
 
--- the next call of this kind is to fail
+-- this entry makes the next call of this kind fail
 abbrev pub is_next : CallKind → Listed → Bool
 is_next kind call = if number_of call.kind == number_of kind then call.wait == 1 else false
 

@@ -1,6 +1,6 @@
 -- What the host in memory shows: its world, its stops, and the calls that are to fail.
 use Rattle.std.specs.Prelude.{◌≡◌, ◌<◌, ◌+◌, ◌-◌, ◌^◌, ℕ, min, Bool, true, false, List, [], length, map, drop, reverse}
-use Rattle.abc_outside.specs.Outside.{Outside, Rose}
+use Rattle.abc_outside.specs.Outside.{Outside, RoseByOne}
 use Rattle.abc_outside.specs.Names.{names_of}
 use Rattle.abc_outside.specs.Failing.{is_due, one_nearer}
 use Rattle.abc_outside.specs.MemoryStop.{Stopped}
@@ -56,7 +56,7 @@ FoundMemory old new = starved_in new < min (starved_in old + 1) (2 ^ 64 - 1)
 pub record IsCalled (kind : CallKind) (failed : Bool) (old new : MemoryHost) : Type 0 where
   pub nearer : listed_in new ≡ map (one_nearer kind) (listed_in old)
   pub listed_fails : is_next_listed kind old ≡ true → failed ≡ true
-  pub else_starved : failed ≡ true → is_next_listed kind old ≡ false → Rose (starved_in old) (starved_in new)
+  pub else_starved : failed ≡ true → is_next_listed kind old ≡ false → RoseByOne (starved_in old) (starved_in new)
   pub no_starving : failed ≡ false → starved_in new ≡ starved_in old
   pub no_input_fault : failed ≡ false → (outside_of new).input_faults ≡ (outside_of old).input_faults
   pub no_store_fault : failed ≡ false → (outside_of new).store_faults ≡ (outside_of old).store_faults

@@ -109,10 +109,11 @@ LaterPointsArePoints {W} opens =
     (after after_left : ℕ → W) (replies left : List (List ℕ)) (first said c s : List ℕ)
     → HasServed after replies after_left left (Unit {0}) first said → IsPoint opens after_left left said c s → IsPoint opens after replies first c s
 
--- behind whole replies
+-- whole replies and m bytes more: no more are heard than all of them and those that the m bytes hold a byte of
 abbrev pub HeardPast : Type 0
 HeardPast = (xs rs : List (List ℕ)) (m : ℕ) → heard (xs ++ rs) (length (joined xs) + m) ≤ length xs + heard rs m
 
+-- and no fewer are whole than all of them and those that the m bytes hold
 abbrev pub WholePast : Type 0
 WholePast = (xs rs : List (List ℕ)) (m : ℕ) → length xs + whole rs m ≤ whole (xs ++ rs) (length (joined xs) + m)
 

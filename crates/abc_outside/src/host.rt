@@ -1,6 +1,6 @@
 //! The trait that the whole product runs over, and the faults of its calls.
 ghost use Rattle.std.specs.Prelude.{◌≡◌, ◌≤◌, ◌<◌, ◌+◌, ◌-◌, ◌^◌, ◌++◌, [], ◌∷◌, List, ℕ, option_map, length, take, drop, min, IfOk, OnOk, OnErr, IsSome, IsErrOf};
-ghost use Rattle.abc_outside.specs.Outside.{Outside, Rose, IsFaultless, KeepsButStore, KeepsButInput, KeepsButSaid, KeepsButChoice};
+ghost use Rattle.abc_outside.specs.Outside.{Outside, RoseByOne, IsFaultless, KeepsButStore, KeepsButInput, KeepsButSaid, KeepsButChoice};
 ghost use Rattle.abc_outside.specs.Stop.{written, Torn, Shortened, Passes};
 
 /// A call of the host failed; its count of faults rose.
@@ -23,7 +23,7 @@ pub enum ChooseFault {
 /// image of the store to the bytes that were said.
 ///
 /// Three counts of faults never fall and stay at 2^64 - 1. A call that answers Err raises one of
-/// them, a call that answers Ok none.
+/// them by one, a call that answers Ok none.
 pub trait Host {
     /// Whether the host tells what was chosen.
     ghost tells_chosen: { Type 0 };
@@ -59,8 +59,8 @@ pub trait Host {
         ensures rest { KeepsButChoice (now self.old) (now self.new) }
         ensures stop { (c s : List ℕ) → stopped self.new (clock self.new) c s → stopped self.old (clock self.old) c s }
         ensures time { Passes (clock self.old) (clock self.new) (stopped self.old) (stopped self.new) }
-        ensures store_cause { IsErrOf result ChooseFault.Store → Rose (now self.old).store_faults (now self.new).store_faults }
-        ensures input_cause { IsErrOf result ChooseFault.Input → Rose (now self.old).input_faults (now self.new).input_faults }
+        ensures store_cause { IsErrOf result ChooseFault.Store → RoseByOne (now self.old).store_faults (now self.new).store_faults }
+        ensures input_cause { IsErrOf result ChooseFault.Input → RoseByOne (now self.old).input_faults (now self.new).input_faults }
         ensures input_named { IsErrOf result ChooseFault.Input → IsSome input.entry }
         ensures store_cause_alone { IsErrOf result ChooseFault.Store → (now self.new).input_faults ≡ (now self.old).input_faults }
         ensures input_cause_alone { IsErrOf result ChooseFault.Input → (now self.new).store_faults ≡ (now self.old).store_faults }
@@ -83,7 +83,7 @@ pub trait Host {
         ensures rest { KeepsButInput (now self.old) (now self.new) }
         ensures stop { (c s : List ℕ) → stopped self.new (clock self.new) c s → stopped self.old (clock self.old) c s }
         ensures time { Passes (clock self.old) (clock self.new) (stopped self.old) (stopped self.new) }
-        ensures cause { OnErr result (Rose (now self.old).input_faults (now self.new).input_faults) }
+        ensures cause { OnErr result (RoseByOne (now self.old).input_faults (now self.new).input_faults) }
         ensures faultless { OnOk result (IsFaultless (now self.old) (now self.new)) };
 
     /// The size of the store in bytes.
@@ -95,7 +95,7 @@ pub trait Host {
         ensures rest { KeepsButStore (now self.old) (now self.new) }
         ensures stop { (c s : List ℕ) → stopped self.new (clock self.new) c s → stopped self.old (clock self.old) c s }
         ensures time { Passes (clock self.old) (clock self.new) (stopped self.old) (stopped self.new) }
-        ensures cause { OnErr result (Rose (now self.old).store_faults (now self.new).store_faults) }
+        ensures cause { OnErr result (RoseByOne (now self.old).store_faults (now self.new).store_faults) }
         ensures faultless { OnOk result (IsFaultless (now self.old) (now self.new)) };
 
     /// Fills `buf` with the bytes of the store from the place `at` on, all of which lie within it.
@@ -108,7 +108,7 @@ pub trait Host {
         ensures rest { KeepsButStore (now self.old) (now self.new) }
         ensures stop { (c s : List ℕ) → stopped self.new (clock self.new) c s → stopped self.old (clock self.old) c s }
         ensures time { Passes (clock self.old) (clock self.new) (stopped self.old) (stopped self.new) }
-        ensures cause { OnErr result (Rose (now self.old).store_faults (now self.new).store_faults) }
+        ensures cause { OnErr result (RoseByOne (now self.old).store_faults (now self.new).store_faults) }
         ensures faultless { OnOk result (IsFaultless (now self.old) (now self.new)) };
 
     /// Writes `bytes` at the place `at`, which is at most the size. What goes past the end extends the
@@ -123,7 +123,7 @@ pub trait Host {
         ensures stop { (c s : List ℕ) → stopped self.new (clock self.new) c s
             → ((d : List ℕ) × stopped self.old (clock self.old) d s × Torn at (length bytes.now) d c) }
         ensures time { Passes (clock self.old) (clock self.new) (stopped self.old) (stopped self.new) }
-        ensures cause { OnErr result (Rose (now self.old).store_faults (now self.new).store_faults) }
+        ensures cause { OnErr result (RoseByOne (now self.old).store_faults (now self.new).store_faults) }
         ensures faultless { OnOk result (IsFaultless (now self.old) (now self.new)) };
 
     /// Cuts the store to its first `size` bytes, which are no more than it has. Until a sync a stop may
@@ -137,7 +137,7 @@ pub trait Host {
         ensures stop { (c s : List ℕ) → stopped self.new (clock self.new) c s
             → ((d : List ℕ) × stopped self.old (clock self.old) d s × Shortened size d c) }
         ensures time { Passes (clock self.old) (clock self.new) (stopped self.old) (stopped self.new) }
-        ensures cause { OnErr result (Rose (now self.old).store_faults (now self.new).store_faults) }
+        ensures cause { OnErr result (RoseByOne (now self.old).store_faults (now self.new).store_faults) }
         ensures faultless { OnOk result (IsFaultless (now self.old) (now self.new)) };
 
     /// Makes the store durable: afterwards a stop leaves it as it reads.
@@ -149,7 +149,7 @@ pub trait Host {
         ensures rest { KeepsButStore (now self.old) (now self.new) }
         ensures stop { (c s : List ℕ) → stopped self.new (clock self.new) c s → stopped self.old (clock self.old) c s }
         ensures time { Passes (clock self.old) (clock self.new) (stopped self.old) (stopped self.new) }
-        ensures cause { OnErr result (Rose (now self.old).store_faults (now self.new).store_faults) }
+        ensures cause { OnErr result (RoseByOne (now self.old).store_faults (now self.new).store_faults) }
         ensures faultless { OnOk result (IsFaultless (now self.old) (now self.new)) };
 
     /// Says first bytes of `bytes`, which is not empty, and answers how many: at least one.
@@ -164,7 +164,7 @@ pub trait Host {
         ensures rest { KeepsButSaid (now self.old) (now self.new) }
         ensures stop { (c s : List ℕ) → stopped self.new (clock self.new) c s → stopped self.old (clock self.old) c (now self.old).said }
         ensures time { Passes (clock self.old) (clock self.new) (stopped self.old) (stopped self.new) }
-        ensures cause { OnErr result (Rose (now self.old).sink_faults (now self.new).sink_faults) }
+        ensures cause { OnErr result (RoseByOne (now self.old).sink_faults (now self.new).sink_faults) }
         ensures faultless { OnOk result (IsFaultless (now self.old) (now self.new)) };
 
     /// A stop since a later moment is one since an earlier moment too.

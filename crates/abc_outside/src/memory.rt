@@ -1,6 +1,6 @@
 //! The host in memory: an image, an input and what was said, with calls that fail where a test wants it.
 ghost use Rattle.std.specs.Prelude.{◌≡◌, ◌≢◌, ◌≤◌, ◌<◌, ◌+◌, ◌-◌, ◌^◌, ◌++◌, [], ◌∷◌, List, ℕ, option_map, length, take, drop, min, vec_len, is_err, IfOk, OnOk, OnErr, IsSome, IsNone, IsErrOf};
-ghost use Rattle.abc_outside.specs.Outside.{Rose, IsFaultless, KeepsButStore, KeepsButInput, KeepsButSaid, KeepsButChoice};
+ghost use Rattle.abc_outside.specs.Outside.{RoseByOne, IsFaultless, KeepsButStore, KeepsButInput, KeepsButSaid, KeepsButChoice};
 ghost use Rattle.abc_outside.specs.Stop.{written, Torn, Shortened, Passes};
 
 use crate::chosen::{Chosen, note_choice, note_read};
@@ -39,7 +39,7 @@ pub struct MemoryHost {
 
 /// Raises a count, which stays at its last value.
 fn raise(count: &mut u64)
-    ensures rose { Rose count.old count.new }
+    ensures rose { RoseByOne count.old count.new }
     ensures never_falls { count.old ≤ count.new }
 {
     *count = count.saturating_add(1);
@@ -47,8 +47,8 @@ fn raise(count: &mut u64)
 
 /// The fault of a choice, counted: where an input is named, it is the input's.
 fn choose_fault(input: Option<&str>, input_faults: &mut u64, store_faults: &mut u64) -> ChooseFault
-    ensures input { result ≡ ChooseFault.Input → IsSome input.entry × Rose input_faults.old input_faults.new }
-    ensures store { result ≡ ChooseFault.Store → IsNone input.entry × Rose store_faults.old store_faults.new }
+    ensures input { result ≡ ChooseFault.Input → IsSome input.entry × RoseByOne input_faults.old input_faults.new }
+    ensures store { result ≡ ChooseFault.Store → IsNone input.entry × RoseByOne store_faults.old store_faults.new }
     ensures input_never_falls { input_faults.old ≤ input_faults.new }
     ensures store_never_falls { store_faults.old ≤ store_faults.new }
     ensures input_alone { result ≡ ChooseFault.Input → store_faults.new ≡ store_faults.old }
@@ -142,7 +142,7 @@ impl MemoryHost {
 // besides: how many bytes a call moves, which calls leave the record as it is (`clock`), that a write or a cut that
 // was made or listed may be torn in every way (`torn`, `shortened`), and when a call fails (`called`).
 impl Host for MemoryHost {
-    ghost use Rattle.abc_outside.specs.MemoryView.{IsCalled, FoundMemory, MayStop, clock_of, most_said_in, outside_of, starved_in, stopped_of};
+    ghost use Rattle.abc_outside.specs.MemoryView.{IsCalled, FoundMemory, MayStop, clock_of, is_next_listed, most_said_in, outside_of, starved_in, stopped_of};
     ghost use Rattle.abc_outside.specs.MemoryLaws.{since_memory, says_now_memory, reads_now_memory};
 
     ghost tells_chosen = { Unit {0} };
@@ -174,8 +174,8 @@ impl Host for MemoryHost {
         ensures stop { (c s : List ℕ) → MayStop self.new c s → MayStop self.old c s }
         ensures time { Passes (clock_of self.old) (clock_of self.new) (stopped_of self.old) (stopped_of self.new) }
         ensures clock { clock_of self.new ≡ clock_of self.old }
-        ensures store_cause { IsErrOf result ChooseFault.Store → Rose (outside_of self.old).store_faults (outside_of self.new).store_faults }
-        ensures input_cause { IsErrOf result ChooseFault.Input → Rose (outside_of self.old).input_faults (outside_of self.new).input_faults }
+        ensures store_cause { IsErrOf result ChooseFault.Store → RoseByOne (outside_of self.old).store_faults (outside_of self.new).store_faults }
+        ensures input_cause { IsErrOf result ChooseFault.Input → RoseByOne (outside_of self.old).input_faults (outside_of self.new).input_faults }
         ensures input_named { IsErrOf result ChooseFault.Input → IsSome input.entry }
         ensures store_alone { IsErrOf result ChooseFault.Store → IsNone input.entry }
         ensures store_cause_alone { IsErrOf result ChooseFault.Store → (outside_of self.new).input_faults ≡ (outside_of self.old).input_faults }
@@ -209,7 +209,7 @@ impl Host for MemoryHost {
         ensures stop { (c s : List ℕ) → MayStop self.new c s → MayStop self.old c s }
         ensures time { Passes (clock_of self.old) (clock_of self.new) (stopped_of self.old) (stopped_of self.new) }
         ensures clock { clock_of self.new ≡ clock_of self.old }
-        ensures cause { OnErr result (Rose (outside_of self.old).input_faults (outside_of self.new).input_faults) }
+        ensures cause { OnErr result (RoseByOne (outside_of self.old).input_faults (outside_of self.new).input_faults) }
         ensures faultless { OnOk result (IsFaultless (outside_of self.old) (outside_of self.new)) }
         ensures called { IsCalled CallKind.Read (is_err result) self.old self.new }
     {
@@ -236,9 +236,11 @@ impl Host for MemoryHost {
         ensures stop { (c s : List ℕ) → MayStop self.new c s → MayStop self.old c s }
         ensures time { Passes (clock_of self.old) (clock_of self.new) (stopped_of self.old) (stopped_of self.new) }
         ensures clock { clock_of self.new ≡ clock_of self.old }
-        ensures cause { OnErr result (Rose (outside_of self.old).store_faults (outside_of self.new).store_faults) }
+        ensures cause { OnErr result (RoseByOne (outside_of self.old).store_faults (outside_of self.new).store_faults) }
         ensures faultless { OnOk result (IsFaultless (outside_of self.old) (outside_of self.new)) }
         ensures called { IsCalled CallKind.Size (is_err result) self.old self.new }
+        ensures exactly { is_err result ≡ is_next_listed CallKind.Size self.old }
+        ensures starved { starved_in self.new ≡ starved_in self.old }
     {
         if next_fails(&mut self.listed, CallKind::Size) {
             raise(&mut self.store_faults);
@@ -255,9 +257,11 @@ impl Host for MemoryHost {
         ensures stop { (c s : List ℕ) → MayStop self.new c s → MayStop self.old c s }
         ensures time { Passes (clock_of self.old) (clock_of self.new) (stopped_of self.old) (stopped_of self.new) }
         ensures clock { clock_of self.new ≡ clock_of self.old }
-        ensures cause { OnErr result (Rose (outside_of self.old).store_faults (outside_of self.new).store_faults) }
+        ensures cause { OnErr result (RoseByOne (outside_of self.old).store_faults (outside_of self.new).store_faults) }
         ensures faultless { OnOk result (IsFaultless (outside_of self.old) (outside_of self.new)) }
         ensures called { IsCalled CallKind.ReadAt (is_err result) self.old self.new }
+        ensures exactly { is_err result ≡ is_next_listed CallKind.ReadAt self.old }
+        ensures starved { starved_in self.new ≡ starved_in self.old }
     {
         if next_fails(&mut self.listed, CallKind::ReadAt) {
             raise(&mut self.store_faults);
@@ -276,7 +280,7 @@ impl Host for MemoryHost {
         ensures stop { (c s : List ℕ) → MayStop self.new c s → ((d : List ℕ) × MayStop self.old d s × Torn at (length bytes.now) d c) }
         ensures torn { FoundMemory self.old self.new → (d c s : List ℕ) → MayStop self.old d s → Torn at (length bytes.now) d c → MayStop self.new c s }
         ensures time { Passes (clock_of self.old) (clock_of self.new) (stopped_of self.old) (stopped_of self.new) }
-        ensures cause { OnErr result (Rose (outside_of self.old).store_faults (outside_of self.new).store_faults) }
+        ensures cause { OnErr result (RoseByOne (outside_of self.old).store_faults (outside_of self.new).store_faults) }
         ensures starved { starved_in self.new ≢ starved_in self.old → clock_of self.new ≡ clock_of self.old }
         ensures faultless { OnOk result (IsFaultless (outside_of self.old) (outside_of self.new)) }
         ensures called { IsCalled CallKind.WriteAt (is_err result) self.old self.new }
@@ -310,7 +314,7 @@ impl Host for MemoryHost {
         ensures stop { (c s : List ℕ) → MayStop self.new c s → ((d : List ℕ) × MayStop self.old d s × Shortened size d c) }
         ensures shortened { FoundMemory self.old self.new → (d c s : List ℕ) → MayStop self.old d s → Shortened size d c → MayStop self.new c s }
         ensures time { Passes (clock_of self.old) (clock_of self.new) (stopped_of self.old) (stopped_of self.new) }
-        ensures cause { OnErr result (Rose (outside_of self.old).store_faults (outside_of self.new).store_faults) }
+        ensures cause { OnErr result (RoseByOne (outside_of self.old).store_faults (outside_of self.new).store_faults) }
         ensures starved { starved_in self.new ≢ starved_in self.old → clock_of self.new ≡ clock_of self.old }
         ensures faultless { OnOk result (IsFaultless (outside_of self.old) (outside_of self.new)) }
         ensures called { IsCalled CallKind.Cut (is_err result) self.old self.new }
@@ -337,7 +341,7 @@ impl Host for MemoryHost {
         ensures rest { KeepsButStore (outside_of self.old) (outside_of self.new) }
         ensures stop { (c s : List ℕ) → MayStop self.new c s → MayStop self.old c s }
         ensures time { Passes (clock_of self.old) (clock_of self.new) (stopped_of self.old) (stopped_of self.new) }
-        ensures cause { OnErr result (Rose (outside_of self.old).store_faults (outside_of self.new).store_faults) }
+        ensures cause { OnErr result (RoseByOne (outside_of self.old).store_faults (outside_of self.new).store_faults) }
         ensures faultless { OnOk result (IsFaultless (outside_of self.old) (outside_of self.new)) }
         ensures called { IsCalled CallKind.Sync (is_err result) self.old self.new }
     {
@@ -364,7 +368,7 @@ impl Host for MemoryHost {
         ensures stop { (c s : List ℕ) → MayStop self.new c s → MayStop self.old c (outside_of self.old).said }
         ensures stays { (c s : List ℕ) → MayStop self.old c s → MayStop self.new c (outside_of self.new).said }
         ensures time { Passes (clock_of self.old) (clock_of self.new) (stopped_of self.old) (stopped_of self.new) }
-        ensures cause { OnErr result (Rose (outside_of self.old).sink_faults (outside_of self.new).sink_faults) }
+        ensures cause { OnErr result (RoseByOne (outside_of self.old).sink_faults (outside_of self.new).sink_faults) }
         ensures faultless { OnOk result (IsFaultless (outside_of self.old) (outside_of self.new)) }
         ensures called { IsCalled CallKind.Say (is_err result) self.old self.new }
     {

@@ -1,6 +1,6 @@
 //! The host over files, standard input and standard output: it keeps its counts alone, and tells nothing of content.
 ghost use Rattle.std.specs.Prelude.{◌≡◌, ◌≤◌, [], IfOk, OnErr, OnOk, Ok};
-ghost use Rattle.abc_outside.specs.Outside.{Rose};
+ghost use Rattle.abc_outside.specs.Outside.{RoseByOne};
 
 use crate::files::{open_input, open_store, read_some, write_some};
 use crate::host::{ChooseFault, Failed, Host};
@@ -73,7 +73,7 @@ fn sync_store(store: &Option<File>) -> io::Result<()> {
 fn counted<T>(answer: io::Result<T>, faults: &mut u64) -> Result<T, Failed>
     ensures value { IfOk result (λ x. answer ≡ Ok x) }
     ensures same { OnOk result (faults.new ≡ faults.old) }
-    ensures rose { OnErr result (Rose faults.old faults.new) }
+    ensures rose { OnErr result (RoseByOne faults.old faults.new) }
     ensures never_falls { faults.old ≤ faults.new }
 {
     match answer {

@@ -1,5 +1,5 @@
 -- What a row gives has the type of its result.
-use Rattle.std.proofs.Common.{◌≡◌, ◌+◌, ◌-◌, ◌*◌, ◌++◌, length, take, drop, ℕ, zero, suc, ℤ, pos, negsuc, Bool, true, false, List, [], ◌∷◌, map, refl, sym, ◌∙◌, subst, Option, None, Some, Result, Ok, Err, inl, inr, slice_get}
+use Rattle.std.proofs.Common.{◌≡◌, ◌+◌, ◌-◌, ◌*◌, ◌++◌, length, take, drop, ℕ, zero, suc, ℤ, pos, negsuc, Bool, true, false, List, [], ◌∷◌, map, refl, sym, subst, Option, None, Some, Result, Ok, Err, inl, inr, slice_get}
 use Rattle.std.specs.Prelude.{cond, ◌&&◌, nat_lt, nat_le, if◌then◌else◌}
 use Rattle.std.specs.List.{filter, repeat}
 use Rattle.std.specs.Option.{ok_or}
@@ -257,12 +257,11 @@ two_keep op.Item e x y = λ v h i w. as_element e v (value_given (item_of x (num
     (item_typed (elements_of x) (whole_of (number_in y)) e (elements_typed x h.0 e h.1 h.2)) w)
 two_keep _ e x y = tt
 
-pub one_by : (o : Op) (a : Operands) (b : Option Letter) (l m : Letter) (e : Ground) (x v : Tree) → a ≡ operands o → b ≡ result_of o → a ≡ One l → b ≡ Some m
-    → IsOf l e x → row_of_one o x ≡ Ok v → IsOf m e v
-one_by o a b l m e x v is_a is_b one some h w =
-    subst (λ c. KeepsOne c (Some m) e x (row_of_one o x)) (sym is_a ∙ one) (subst (λ c. KeepsOne (operands o) c e x (row_of_one o x)) (sym is_b ∙ some) (one_keeps o e x)) v h w
+pub one_by : (o : Op) (l m : Letter) (e : Ground) (x v : Tree) → operands o ≡ One l → result_of o ≡ Some m → IsOf l e x → row_of_one o x ≡ Ok v → IsOf m e v
+one_by o l m e x v one some h w =
+    subst (λ c. KeepsOne c (Some m) e x (row_of_one o x)) one (subst (λ c. KeepsOne (operands o) c e x (row_of_one o x)) some (one_keeps o e x)) v h w
 
-pub two_by : (o : Op) (a : Operands) (b : Option Letter) (k l m : Letter) (e : Ground) (x y v : Tree) → a ≡ operands o → b ≡ result_of o → a ≡ Two k l → b ≡ Some m
-    → IsOf k e x → IsOf l e y → row_of_two o x y ≡ Ok v → IsOf m e v
-two_by o a b k l m e x y v is_a is_b two some h i w =
-    subst (λ c. KeepsTwo c (Some m) e x y (row_of_two o x y)) (sym is_a ∙ two) (subst (λ c. KeepsTwo (operands o) c e x y (row_of_two o x y)) (sym is_b ∙ some) (two_keep o e x y)) v h i w
+pub two_by : (o : Op) (k l m : Letter) (e : Ground) (x y v : Tree) → operands o ≡ Two k l → result_of o ≡ Some m → IsOf k e x → IsOf l e y
+    → row_of_two o x y ≡ Ok v → IsOf m e v
+two_by o k l m e x y v two some h i w =
+    subst (λ c. KeepsTwo c (Some m) e x y (row_of_two o x y)) two (subst (λ c. KeepsTwo (operands o) c e x y (row_of_two o x y)) some (two_keep o e x y)) v h i w

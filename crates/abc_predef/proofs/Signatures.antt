@@ -1,14 +1,59 @@
--- The table has the types of the rows, and what follows for those that are taken.
-use Rattle.std.proofs.Common.{◌≡◌, refl, sym, ap, ◌∙◌, subst, List, Option, None, Some}
+-- The table has each operation with its types, and which of them have a result.
+use Rattle.std.proofs.Common.{◌≡◌, refl, List, Option, None, Some}
 use Rattle.std.specs.Prelude.{IsSome, IsNone}
 use Rattle.std.specs.Option.{option_map}
 use Rattle.abc_tree.specs.declared.operations.Op.{Op}
 use Rattle.abc_tree.specs.declared.operations.Op.TheVariants as op
 use Rattle.abc_value.specs.Tree.{Tree}
-use Rattle.abc_predef.specs.declared.table.Row.{Row}
 use Rattle.abc_predef.specs.declared.table.Letter.{Letter}
-use Rattle.abc_predef.specs.Signatures.{operands, result_of}
-use Rattle.abc_predef.specs.Takes.{AreTaken, row_of, GivesValue, IsTest}
+use Rattle.abc_predef.specs.Signatures.{operands, result_of, row_of}
+use Rattle.abc_predef.specs.Takes.{AreTaken, GivesValue, IsTest}
+
+pub op_is : (o : Op) → option_map (λ r. r.op) (row_of o) ≡ Some o
+unfolding row_of
+op_is op.Plus = refl
+op_is op.Negate = refl
+op_is op.Numerator = refl
+op_is op.Denominator = refl
+op_is op.Size = refl
+op_is op.Add = refl
+op_is op.Subtract = refl
+op_is op.Multiply = refl
+op_is op.Divide = refl
+op_is op.Power = refl
+op_is op.Join = refl
+op_is op.Repeat = refl
+op_is op.Behead = refl
+op_is op.Curtail = refl
+op_is op.AlignLeft = refl
+op_is op.Center = refl
+op_is op.AlignRight = refl
+op_is op.Count = refl
+op_is op.Abs = refl
+op_is op.Sign = refl
+op_is op.Floor = refl
+op_is op.Ceiling = refl
+op_is op.Round = refl
+op_is op.Keys = refl
+op_is op.Least = refl
+op_is op.Greatest = refl
+op_is op.Lower = refl
+op_is op.Upper = refl
+op_is op.Stripped = refl
+op_is op.Split = refl
+op_is op.RoundTo = refl
+op_is op.Modulo = refl
+op_is op.LeastAbove = refl
+op_is op.GreatestBelow = refl
+op_is op.Item = refl
+op_is op.In = refl
+op_is op.NotIn = refl
+op_is op.Less = refl
+op_is op.AtMost = refl
+op_is op.Equal = refl
+op_is op.Unequal = refl
+op_is op.AtLeast = refl
+op_is op.More = refl
 
 pub operands_are : (o : Op) → option_map (λ r. r.operands) (row_of o) ≡ Some (operands o)
 unfolding row_of
@@ -56,7 +101,7 @@ operands_are op.Unequal = refl
 operands_are op.AtLeast = refl
 operands_are op.More = refl
 
-result_is : (o : Op) → option_map (λ r. r.result) (row_of o) ≡ Some (result_of o)
+pub result_is : (o : Op) → option_map (λ r. r.result) (row_of o) ≡ Some (result_of o)
 unfolding row_of
 result_is op.Plus = refl
 result_is op.Negate = refl
@@ -102,27 +147,25 @@ result_is op.Unequal = refl
 result_is op.AtLeast = refl
 result_is op.More = refl
 
-pub some_is : {A : Type 0} (a b : A) → Some a ≡ Some b → a ≡ b
-some_is a b e = cc
-
-pub row_operands : (o : Op) (r : Row) → row_of o ≡ Some r → r.operands ≡ operands o
-row_operands o r e = some_is r.operands (operands o) (sym (ap (option_map (λ r. r.operands)) e) ∙ operands_are o)
-
-pub row_result : (o : Op) (r : Row) → row_of o ≡ Some r → r.result ≡ result_of o
-row_result o r e = some_is r.result (result_of o) (sym (ap (option_map (λ r. r.result)) e) ∙ result_is o)
-
--- the operands that are taken have the types of the row
+-- what an operation takes, and whether it has a result
 pub value_operands : (o : Op) (xs : List Tree) → GivesValue o xs → AreTaken (operands o) xs
-value_operands o xs g = subst (λ l. AreTaken l xs) (row_operands o g.0 g.1) g.3
+unfolding GivesValue
+value_operands o xs g = g.1
 
 pub test_operands : (o : Op) (xs : List Tree) → IsTest o xs → AreTaken (operands o) xs
-test_operands o xs g = subst (λ l. AreTaken l xs) (row_operands o g.0 g.1) g.3
+unfolding IsTest
+test_operands o xs g = g.1
 
 pub has_result : (o : Op) (xs : List Tree) → GivesValue o xs → IsSome (result_of o)
-has_result o xs g = subst IsSome (row_result o g.0 g.1) g.2
+unfolding GivesValue
+has_result o xs g = g.0
 
 pub has_no_result : (o : Op) (xs : List Tree) → IsTest o xs → IsNone (result_of o)
-has_no_result o xs g = subst IsNone (row_result o g.0 g.1) g.2
+unfolding IsTest
+has_no_result o xs g = g.0
+
+pub some_is : {A : Type 0} (a b : A) → Some a ≡ Some b → a ≡ b
+some_is a b e = cc
 
 pub no_result : (l : Option Letter) → l ≡ None → IsSome l → ⊥
 no_result (Some l) e h = cc

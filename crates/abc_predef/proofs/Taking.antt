@@ -1,7 +1,6 @@
 -- Operands of known types are taken: for the tests.
-use Rattle.std.proofs.Common.{◌≡◌, refl, sym, ◌∙◌, subst, List, [], ◌∷◌, Option, None, Some, inl, inr}
+use Rattle.std.proofs.Common.{◌≡◌, refl, sym, subst, List, [], ◌∷◌, inl, inr}
 use Rattle.std.specs.Prelude.{IsSome, IsNone}
-use Rattle.std.specs.Option.{option_map}
 use Rattle.abc_num.specs.declared.types.Ground.{Ground}
 use Rattle.abc_num.specs.declared.types.Ground.TheVariants as type
 use Rattle.abc_tree.specs.declared.operations.Op.{Op}
@@ -9,28 +8,20 @@ use Rattle.abc_value.specs.Tree.{Tree, number, text, compound, list, table, tree
 use Rattle.abc_value.specs.Types.{has}
 use Rattle.abc_value.specs.Parts.{IsText, parts_of, pairs_of}
 use Rattle.abc_value.specs.Changes.{add, with_pair}
-use Rattle.abc_predef.specs.declared.table.Row.{Row}
 use Rattle.abc_predef.specs.declared.table.Letter.TheVariants as letter
 use Rattle.abc_predef.specs.declared.table.Operands.{Operands}
 use Rattle.abc_predef.specs.declared.table.Operands.TheVariants.{One, Two}
-use Rattle.abc_predef.specs.Takes.{IsNumeric, AreTaken, row_of, GivesValue, IsTest}
+use Rattle.abc_predef.specs.Takes.{IsNumeric, AreTaken, GivesValue, IsTest}
 use Rattle.abc_predef.specs.Signatures.{operands, result_of}
-use Rattle.abc_predef.proofs.Signatures.{operands_are, row_operands, row_result}
 use Rattle.abc_predef.proofs.Typed.{typed_parts, add_typed, list_of_type, typed_pairs, with_typed}
 
-there : (w : Option Row) (l : Operands) → option_map (λ r. r.operands) w ≡ Some l → (r : Row) × (w ≡ Some r)
-there (Some r) l e = (r, refl)
-there None l e = absurd (cc)
-
 gives : (o : Op) (l : Operands) (xs : List Tree) → operands o ≡ l → IsSome (result_of o) → AreTaken l xs → GivesValue o xs
-gives o l xs e s a =
-    let t = there (row_of o) (operands o) (operands_are o) in
-    (t.0, t.1, subst IsSome (sym (row_result o t.0 t.1)) s, subst (λ m. AreTaken m xs) (sym e ∙ sym (row_operands o t.0 t.1)) a)
+unfolding GivesValue
+gives o l xs e s a = (s, subst (λ m. AreTaken m xs) (sym e) a)
 
 tests : (o : Op) (l : Operands) (xs : List Tree) → operands o ≡ l → IsNone (result_of o) → AreTaken l xs → IsTest o xs
-tests o l xs e s a =
-    let t = there (row_of o) (operands o) (operands_are o) in
-    (t.0, t.1, subst IsNone (sym (row_result o t.0 t.1)) s, subst (λ m. AreTaken m xs) (sym e ∙ sym (row_operands o t.0 t.1)) a)
+unfolding IsTest
+tests o l xs e s a = (s, subst (λ m. AreTaken m xs) (sym e) a)
 
 numeric_has : (t : Tree) → IsNumeric t → has t type.Number
 numeric_has (number n) h = refl

@@ -31,6 +31,7 @@ abbrev pub of_number_answer : Result Fraction NumFault → Result Tree RunFault
 of_number_answer (Ok n) = Ok (number n)
 of_number_answer (Err f) = Err (run_fault_of_number f)
 
+-- a value, or its fault
 abbrev pub of_value_answer : Result Tree ValueFault → Result Tree RunFault
 of_value_answer (Ok t) = Ok t
 of_value_answer (Err f) = Err (run_fault_of_value f)

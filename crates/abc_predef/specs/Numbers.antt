@@ -1,4 +1,5 @@
--- The results of the operations on numbers.
+-- The results of the operations on numbers, computed: abc_num says the same by relations, and the functions of numbers.rt
+-- show that both agree.
 use Rattle.std.specs.Prelude.{ℕ, zero, suc, ◌*◌, ◌/◌, ◌%◌, ◌^◌, ℤ, pos, negsuc, ◌+ℤ◌, ◌-ℤ◌, ◌*ℤ◌, neg_ℤ, unsigned_abs, Bool, true, false, not, ◌&&◌, nat_eq, nat_lt, if◌then◌else◌, Option, None, Some, Result, Ok, Err}
 use Rattle.std.specs.Int.{int_pow, int_signum}
 use Rattle.abc_num.specs.declared.number.NumFault.{NumFault}
@@ -6,7 +7,7 @@ use Rattle.abc_num.specs.declared.number.NumFault.TheVariants.{Overflow, Divisio
 use Rattle.abc_num.specs.Number.{Fraction, fraction, signed, whole_number, whole_of}
 use Rattle.abc_num.specs.Rounding.{floor_of, floor_mod, nearest_of}
 
--- the greatest common divisor: that of a and 0 is a, that of a and b is that of b and the rest of a by b
+-- the greatest common divisor, in so many turns: that of a and 0 is a, that of a and b is that of b and the rest of a by b
 unfoldable pub gcd_within : ℕ → ℕ → ℕ → ℕ
 gcd_within zero a b = a
 gcd_within (suc turns) a zero = a

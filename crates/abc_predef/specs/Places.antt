@@ -20,7 +20,7 @@ abbrev pub IsLike : Tree → Tree → Type 0
 IsLike e (text b) = IsText e
 IsLike e _ = Unit {0}
 
--- the element at a place that is counted from 0
+-- the element at a place that is counted from 0 (the train itself where there is no such place)
 abbrev pub element_at : Tree → ℕ → Tree
 element_at t i = slice_index_or (elements_of t) i t
 
@@ -40,12 +40,12 @@ abbrev pub better_with : Extreme → Option Tree → Tree → Tree
 better_with end None x = x
 better_with end (Some b) x = better end b x
 
--- the place of the best of some values, if there is one
+-- a place of the train t where the best of xs stands, or none where xs has none
 abbrev pub IsPlaceOfBest : Extreme → Tree → List Tree → Option ℕ → Type 0
 IsPlaceOfBest end t xs place = MatchOption place (best_of end xs ≡ None)
     (λ k. (k < length (elements_of t)) × (best_of end xs ≡ Some (element_at t k)))
 
--- a table of words with one more, unless it is empty
+-- a table of words with one more under the next number; an empty word changes nothing
 abbrev pub with_word : Tree → List ℕ → Tree
 with_word t [] = t
 with_word t (c ∷ b) = table (pairs (with_pair (number (whole_number (pos (length_of t + 1)))) (text (c ∷ b)) (pairs_of t)))

@@ -1,13 +1,16 @@
 -- The types of each operation: of its operands, and of its result, which is none for a test.
 use Rattle.std.specs.Prelude.{◌≡◌, Option, None, Some}
+use Rattle.std.specs.Option.{option_map}
+use Rattle.std.specs.List.{find}
 use Rattle.abc_tree.specs.declared.operations.Op.{Op}
 use Rattle.abc_tree.specs.declared.operations.Op.TheVariants as op
+use Rattle.abc_predef.specs.declared.table.TheConstants.{TABLE}
 use Rattle.abc_predef.specs.declared.table.Row.{Row}
 use Rattle.abc_predef.specs.declared.table.Letter.{Letter}
 use Rattle.abc_predef.specs.declared.table.Letter.TheVariants as letter
 use Rattle.abc_predef.specs.declared.table.Operands.{Operands}
 use Rattle.abc_predef.specs.declared.table.Operands.TheVariants.{One, Two}
-use Rattle.abc_predef.specs.Takes.{row_of}
+use Rattle.abc_predef.specs.Operations.{is_op}
 
 abbrev pub operands : Op → Operands
 operands op.Plus = One letter.Number
@@ -99,6 +102,10 @@ result_of op.Unequal = None
 result_of op.AtLeast = None
 result_of op.More = None
 
--- the table has each operation with its types
+-- the row of an operation in the table
+unfoldable pub row_of : Op → Option Row
+row_of op = find (λ r. is_op r.op op) TABLE
+
+-- each operation has a row in the table, with its types
 abbrev pub IsTypedSo : Type 0
-IsTypedSo = (o : Op) (r : Row) → row_of o ≡ Some r → (r.operands ≡ operands o) × (r.result ≡ result_of o)
+IsTypedSo = (o : Op) → (option_map (λ r. r.op) (row_of o) ≡ Some o) × (option_map (λ r. r.operands) (row_of o) ≡ Some (operands o)) × (option_map (λ r. r.result) (row_of o) ≡ Some (result_of o))

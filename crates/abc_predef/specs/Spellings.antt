@@ -1,5 +1,5 @@
 -- How each operation is spelled: its name or sign, and how many operands it has.
-use Rattle.std.specs.Prelude.{◌≡◌, ℕ, List, codes, map, Some}
+use Rattle.std.specs.Prelude.{◌≡◌, codes, map, Some}
 use Rattle.abc_tree.specs.declared.operations.Op.{Op}
 use Rattle.abc_tree.specs.declared.operations.Op.TheVariants as op
 use Rattle.abc_predef.specs.declared.table.TheConstants.{TABLE}

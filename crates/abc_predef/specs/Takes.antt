@@ -1,19 +1,16 @@
 -- Which operands a row takes.
-use Rattle.std.specs.Prelude.{◌≡◌, List, [], ◌∷◌, Option, Some, IsSome, IsNone}
-use Rattle.std.specs.List.{find}
+use Rattle.std.specs.Prelude.{◌≡◌, List, [], ◌∷◌, IsSome, IsNone}
 use Rattle.abc_num.specs.declared.types.Ground.{Ground}
 use Rattle.abc_num.specs.declared.types.Ground.TheVariants as type
 use Rattle.abc_num.specs.Types.{IsTrainOf}
 use Rattle.abc_tree.specs.declared.operations.Op.{Op}
 use Rattle.abc_value.specs.Tree.{Tree, number}
 use Rattle.abc_value.specs.Types.{has}
-use Rattle.abc_predef.specs.declared.table.TheConstants.{TABLE}
-use Rattle.abc_predef.specs.declared.table.Row.{Row}
 use Rattle.abc_predef.specs.declared.table.Letter.{Letter}
 use Rattle.abc_predef.specs.declared.table.Letter.TheVariants as letter
 use Rattle.abc_predef.specs.declared.table.Operands.{Operands}
 use Rattle.abc_predef.specs.declared.table.Operands.TheVariants.{One, Two}
-use Rattle.abc_predef.specs.Operations.{is_op}
+use Rattle.abc_predef.specs.Signatures.{operands, result_of}
 
 -- a number
 abbrev pub IsNumeric : Tree → Type 0
@@ -40,14 +37,10 @@ AreTaken (One l) (x ∷ []) = (e : Ground) × IsOf l e x
 AreTaken (Two l m) (x ∷ y ∷ []) = (e : Ground) × IsOf l e x × IsOf m e y
 AreTaken _ _ = ⊥
 
--- the row of an operation
-unfoldable pub row_of : Op → Option Row
-row_of op = find (λ r. is_op r.op op) TABLE
+-- the operation gives a value, and takes the operands
+unfoldable pub GivesValue : Op → List Tree → Type 0
+GivesValue op xs = IsSome (result_of op) × AreTaken (operands op) xs
 
--- the row gives a value, and takes the operands
-abbrev pub GivesValue : Op → List Tree → Type 0
-GivesValue op operands = (r : Row) × (row_of op ≡ Some r) × IsSome r.result × AreTaken r.operands operands
-
--- the row is a test, and takes the operands
-abbrev pub IsTest : Op → List Tree → Type 0
-IsTest op operands = (r : Row) × (row_of op ≡ Some r) × IsNone r.result × AreTaken r.operands operands
+-- the operation is a test, and takes the operands
+unfoldable pub IsTest : Op → List Tree → Type 0
+IsTest op xs = IsNone (result_of op) × AreTaken (operands op) xs

@@ -21,7 +21,7 @@ use std::cmp::Ordering;
 
 /// What the row `op` gives for one operand. The row gives a value, has one place and takes the operand.
 ///
-/// The faults are those of the row, in its order: Overflow, NoElement, TooLong; Memory at any time.
+/// The only fault of these rows is NoElement, of `min` and `max`; Memory at any time.
 pub fn apply1(alloc: Global, op: Op, x: &Value) -> Result<Value, RunFault>
     requires { GivesValue op (x.now ∷ []) }
     ensures { IsRowAnswer (row_of_one op x.now) result }

@@ -4,7 +4,7 @@ ghost use Rattle.std.specs.List.{position, position_or_len};
 ghost use Rattle.abc_predef.specs.Texts.{in_case, is_space};
 
 /// The code of a space.
-pub const SPACE: u8 = b' ';
+pub(crate) const SPACE: u8 = b' ';
 
 /// Capitals or small letters.
 #[derive(Clone, Copy)]

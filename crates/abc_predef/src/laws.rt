@@ -9,7 +9,7 @@ pub fn operations_are_spelled()
     ensures only { IsSpelledOnlySo }
 {}
 
-/// Each of the 43 operations stands in the table with the types of its operands and of its result.
+/// Each of the 43 operations has a row in the table, with the types of its operands and of its result.
 pub fn operations_are_typed()
     ensures { IsTypedSo }
 {}

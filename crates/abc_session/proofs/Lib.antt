@@ -15,6 +15,7 @@ mod Replay
 mod Opening
 mod Spelling
 mod Outcomes
+mod Replies
 mod Stops
 mod Turns
 mod Places

@@ -4,9 +4,20 @@ use Rattle.std.specs.Prelude.{map, IfSome}
 use Rattle.std.proofs.lemmas.List.{append-nil, length-take-le, take_all, take_at, drop_at, drop-drop}
 use Rattle.std.proofs.lemmas.Bool.{lt-ltb}
 use Rattle.abc_session.specs.Lines.{Line, line_of, cut_at_lf, lines_by}
-use Rattle.abc_session.specs.Reading.{HasNoLf, TookPart, UsesLine, IsStarted, WantsMore, IsLast, shown}
+use Rattle.abc_session.specs.Reading.{HasNoLf, TookPart, UsesLine, WantsMore, IsLast, shown}
 use Rattle.abc_session.specs.declared.line.Line as code
 use Rattle.abc_session.proofs.Cutting.{first_is, none_ended, last_is, all-append}
+
+-- Since these bytes were pending and these left, more were taken; a line has the first of them, which hold no LF.
+pub record IsStarted (pending left : List ℕ) (taken : ℕ) (line : Line) (pending_now left_now : List ℕ) (taken_now : ℕ) : Type 0 where
+  pub bytes : List ℕ
+  pub more : ℕ
+  pub within : more ≤ length left
+  pub count : taken_now ≡ taken + more
+  pub held : pending ++ take more left ≡ bytes ++ pending_now
+  pub rest : left_now ≡ drop more left
+  pub no_lf : HasNoLf bytes
+  pub line_is : line ≡ line_of bytes
 
 take-nil : (k : ℕ) (none : List ℕ) → none ≡ [] → [] ≡ none ++ take k none
 take-nil zero none is = sym (ap (λ (l : List ℕ). l ++ []) is)

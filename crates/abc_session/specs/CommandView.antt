@@ -33,7 +33,7 @@ abbrev pub HasNumber : Source → Type 0
 HasNumber (Number value) = IsNumber value
 HasNumber (Target name) = Unit {0}
 
--- a command whose name has no more bytes than this
+-- its number is one of the language, its name has letters alone and no more bytes than this
 abbrev pub IsFit : ℕ → Option Command → Type 0
 IsFit most None = Unit {0}
 IsFit most (Some (Write value)) = HasNumber value

@@ -12,7 +12,7 @@ pub record Line : Type 0 where
 abbrev pub line_of : List ℕ → Line
 line_of bytes = record { text = take MOST_LINE_BYTES bytes; long = nat_lt MOST_LINE_BYTES (length bytes) }
 
--- a byte before the first of these lines
+-- a byte before the first of these lines; where there is none it is a last line of its own, if the bytes end there, and else none yet
 abbrev pub onto : Bool → ℕ → List (List ℕ) → List (List ℕ)
 onto true byte [] = (byte ∷ []) ∷ []
 onto false byte [] = []

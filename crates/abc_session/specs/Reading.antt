@@ -37,17 +37,6 @@ pub record TookPart (old new : List ℕ) (line_old line_new : Line) (found : Boo
   pub split : old ≡ part ++ (if found then 10 ∷ new else [])
   pub rest : found ≡ false → new ≡ []
 
--- Since these bytes were pending and these left, more were taken; a line has the first of them, which hold no LF.
-pub record IsStarted (pending left : List ℕ) (taken : ℕ) (line : Line) (pending_now left_now : List ℕ) (taken_now : ℕ) : Type 0 where
-  pub bytes : List ℕ
-  pub more : ℕ
-  pub within : more ≤ length left
-  pub count : taken_now ≡ taken + more
-  pub held : pending ++ take more left ≡ bytes ++ pending_now
-  pub rest : left_now ≡ drop more left
-  pub no_lf : HasNoLf bytes
-  pub line_is : line ≡ line_of bytes
-
 -- The next bytes were used, a line and the LF that ends it; so many were taken since.
 pub record UsesLine (pending left : List ℕ) (taken : ℕ) (pending_new left_new : List ℕ) (taken_new : ℕ) (line : Line) : Type 0 where
   pub bytes : List ℕ

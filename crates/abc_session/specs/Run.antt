@@ -33,11 +33,12 @@ pub record IsComplete (image_bound input_bound : ℕ) (old new : Outside) : Type
   pub read : new.left ≡ []
   pub in_bound : length old.left < input_bound
 
--- the image, the input and what was said are as before
+-- the image, the input, what was said and what was asked are as before
 pub record IsUntouched (old new : Outside) : Type 0 where
   pub image : new.image ≡ old.image
   pub left : new.left ≡ old.left
   pub said : new.said ≡ old.said
+  pub asked : new.asked ≡ old.asked
 
 -- one choice more: this store, and standard input
 abbrev pub chose : List ℕ → List (List ℕ × Option (List ℕ)) → List (List ℕ × Option (List ℕ))

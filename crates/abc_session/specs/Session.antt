@@ -1,5 +1,5 @@
 -- What a session says, and what it keeps.
-use Rattle.std.specs.Prelude.{ℕ, suc, ℤ, List, [], ◌∷◌, length, Option, None, Some, if◌then◌else◌, nat_lt, codes}
+use Rattle.std.specs.Prelude.{ℕ, ◌<◌, suc, ℤ, List, [], ◌∷◌, length, Option, None, Some, if◌then◌else◌, nat_lt, codes}
 use Rattle.abc_journal.specs.declared.layout.Layout.{Layout}
 use Rattle.abc_journal.specs.Journal.{need_of, after_record}
 use Rattle.abc_session.specs.Lines.{Line}
@@ -48,6 +48,10 @@ outcome_of bound k work other = record { reply = fault_reply k (codes "NotYet");
 -- item k, by its line
 abbrev pub outcome : ℕ → ℕ → Work → Line → Outcome
 outcome bound k work line = outcome_of bound k work (form_of line)
+
+-- no reply is empty
+abbrev pub NoReplyIsEmpty : Type 0
+NoReplyIsEmpty = (bound k : ℕ) (work : Work) (line : Line) → 0 < length (outcome bound k work line).reply
 
 -- the work after these items, the first of which is item k
 abbrev pub after : ℕ → ℕ → Work → List Line → Work

@@ -15,6 +15,7 @@ mod status;
 mod store;
 mod targets;
 
+pub use reply::no_reply_is_empty;
 pub use running::{run, run_within};
 pub use status::{
     COMPLETE, INPUT_FAULT, INPUT_TOO_LONG, MEMORY, NOT_A_STORE, SINK_FAULT, STORE_FAULT, USAGE,

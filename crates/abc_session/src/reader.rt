@@ -1,6 +1,6 @@
 //! The reader: the lines of the input, one after the other.
 ghost use Rattle.std.specs.Prelude.{◌≡◌, ◌⊎◌, ◌≤◌, ◌<◌, ◌+◌, ◌-◌, ◌^◌, min, ◌++◌, ◌∷◌, [], List, ℕ, false, true, length, take, IfOk, IfErr, OnOk, OnErr, IsErrOf, MatchOption, IsSome, IsNone, IfSome};
-ghost use Rattle.abc_outside.specs.Outside.{Rose, KeepsButInput};
+ghost use Rattle.abc_outside.specs.Outside.{RoseByOne, KeepsButInput};
 ghost use Rattle.abc_outside.specs.Stop.{Leaves};
 
 use crate::line::Line;
@@ -71,7 +71,7 @@ fn read_piece<H: Host>(host: &mut H, piece: &mut [u8], most: u64) -> Result<usiz
     ensures end { H.tells_input → IfOk result (λ count. count ≡ 0 → (H.now host.old).left ≡ []) }
     ensures taken { IfOk result (λ count. (H.now host.new).taken ≡ min ((H.now host.old).taken + count) (2 ^ 64 - 1)) }
     ensures stop { IfErr result (λ stop. stop ≡ LineStop.Input) }
-    ensures input { OnErr result (Rose (H.now host.old).input_faults (H.now host.new).input_faults) }
+    ensures input { OnErr result (RoseByOne (H.now host.old).input_faults (H.now host.new).input_faults) }
     ensures faultless { OnOk result ((H.now host.new).input_faults ≡ (H.now host.old).input_faults) }
     ensures failed { OnErr result ((H.now host.new).taken ≡ (H.now host.old).taken) }
     ensures failed_left { OnErr result ((H.now host.new).left ≡ (H.now host.old).left) }
@@ -158,7 +158,7 @@ impl Reader {
         ensures used_same { OnOk result (used_of self.new ≡ used_of self.old) }
         ensures not_long { IsErrOf result LineStop.Long → ⊥ }
         ensures memory_faultless { IsErrOf result LineStop.Memory → (H.now host.new).input_faults ≡ (H.now host.old).input_faults }
-        ensures input { IsErrOf result LineStop.Input → Rose (H.now host.old).input_faults (H.now host.new).input_faults }
+        ensures input { IsErrOf result LineStop.Input → RoseByOne (H.now host.old).input_faults (H.now host.new).input_faults }
         ensures faultless { OnOk result ((H.now host.new).input_faults ≡ (H.now host.old).input_faults) }
 
         ensures failed { OnErr result (self.new.taken ≡ self.old.taken) }
@@ -198,7 +198,7 @@ impl Reader {
 
         ensures long { IsErrOf result LineStop.Long → self.new.taken ≡ self.new.bound }
         ensures stop_faultless { (IsErrOf result LineStop.Memory ⊎ IsErrOf result LineStop.Long) → (H.now host.new).input_faults ≡ (H.now host.old).input_faults }
-        ensures input { IsErrOf result LineStop.Input → Rose (H.now host.old).input_faults (H.now host.new).input_faults }
+        ensures input { IsErrOf result LineStop.Input → RoseByOne (H.now host.old).input_faults (H.now host.new).input_faults }
         ensures faultless { OnOk result ((H.now host.new).input_faults ≡ (H.now host.old).input_faults) }
         ensures wants { H.tells_input → (IsErrOf result LineStop.Long ⊎ IsErrOf result LineStop.Input)
             → WantsMore (pending_of self.old) (H.now host.old).left self.old.taken self.new.taken }

@@ -1,6 +1,6 @@
 //! The run: words in, a status out.
 ghost use Rattle.std.specs.Prelude.{◌≡◌, ◌≢◌, ◌⊎◌, ◌≤◌, ◌<◌, ◌↔◌, List, ℕ, ℤ, map, length, Ok, Err, None, Some, option_map};
-ghost use Rattle.abc_outside.specs.Outside.{Rose, IsFaultless};
+ghost use Rattle.abc_outside.specs.Outside.{RoseByOne, IsFaultless};
 ghost use Rattle.abc_outside.specs.Session.{IsBetween, IsBroken, IsCutShort};
 ghost use Rattle.abc_outside.specs.Stop.{Leaves, IsQuiet, Now};
 ghost use Rattle.abc_journal.specs.Journal.{BeginsQuiet};
@@ -54,9 +54,9 @@ fn run_store<H: Host>(alloc: Global, host: &mut H, b: &Bounds) -> u8
     requires { (H.now host.old).taken ≡ 0 }
 
     ensures complete { H.tells_image → H.tells_said → H.tells_input → result ≡ COMPLETE → IsComplete b.now.image b.now.input (H.now host.old) (H.now host.new) }
-    ensures input_fault { result ≡ INPUT_FAULT → Rose (H.now host.old).input_faults (H.now host.new).input_faults }
-    ensures store_fault { result ≡ STORE_FAULT → Rose (H.now host.old).store_faults (H.now host.new).store_faults }
-    ensures sink_fault { result ≡ SINK_FAULT → Rose (H.now host.old).sink_faults (H.now host.new).sink_faults }
+    ensures input_fault { result ≡ INPUT_FAULT → RoseByOne (H.now host.old).input_faults (H.now host.new).input_faults }
+    ensures store_fault { result ≡ STORE_FAULT → RoseByOne (H.now host.old).store_faults (H.now host.new).store_faults }
+    ensures sink_fault { result ≡ SINK_FAULT → RoseByOne (H.now host.old).sink_faults (H.now host.new).sink_faults }
     ensures input_alone { result ≡ INPUT_FAULT → OnlyInputFailed (H.now host.old) (H.now host.new) }
     ensures store_alone { result ≡ STORE_FAULT → OnlyStoreFailed (H.now host.old) (H.now host.new) }
     ensures sink_alone { result ≡ SINK_FAULT → OnlySinkFailed (H.now host.old) (H.now host.new) }
@@ -66,6 +66,7 @@ fn run_store<H: Host>(alloc: Global, host: &mut H, b: &Bounds) -> u8
     ensures untouched_stops { H.tells_image → (at : ℕ) → opens (H.now host.old).image ≡ Err at → Leaves H.clock H.stopped host.old host.new (H.stopped host.old (H.clock host.old)) }
     ensures refused { H.tells_image → (at : ℕ) → opens (H.now host.old).image ≡ Err at → (result ≡ NOT_A_STORE) ⊎ (result ≡ STORE_FAULT) ⊎ (result ≡ MEMORY) }
     ensures too_long { result ≡ INPUT_TOO_LONG → (H.now host.new).taken ≡ b.now.input }
+    ensures most_taken { (H.now host.new).taken ≤ b.now.input }
     ensures too_long_input { H.tells_input → result ≡ INPUT_TOO_LONG → b.now.input ≤ length (H.now host.old).left }
     ensures status { IsRunStatus result }
     ensures chosen { (H.now host.new).chosen ≡ (H.now host.old).chosen }
@@ -116,9 +117,9 @@ pub fn run_within<H: Host>(alloc: Global, words: &[&str], host: &mut H, b: &Boun
 
     // When each other status comes.
     ensures usage { (result ≡ USAGE) ↔ (store_named (map (λ word. word.now) words.now) ≡ None) }
-    ensures input_fault { result ≡ INPUT_FAULT → Rose (H.now host.old).input_faults (H.now host.new).input_faults }
-    ensures store_fault { result ≡ STORE_FAULT → Rose (H.now host.old).store_faults (H.now host.new).store_faults }
-    ensures sink_fault { result ≡ SINK_FAULT → Rose (H.now host.old).sink_faults (H.now host.new).sink_faults }
+    ensures input_fault { result ≡ INPUT_FAULT → RoseByOne (H.now host.old).input_faults (H.now host.new).input_faults }
+    ensures store_fault { result ≡ STORE_FAULT → RoseByOne (H.now host.old).store_faults (H.now host.new).store_faults }
+    ensures sink_fault { result ≡ SINK_FAULT → RoseByOne (H.now host.old).sink_faults (H.now host.new).sink_faults }
     ensures input_alone { result ≡ INPUT_FAULT → OnlyInputFailed (H.now host.old) (H.now host.new) }
     ensures store_alone { result ≡ STORE_FAULT → OnlyStoreFailed (H.now host.old) (H.now host.new) }
     ensures sink_alone { result ≡ SINK_FAULT → OnlySinkFailed (H.now host.old) (H.now host.new) }
@@ -126,6 +127,7 @@ pub fn run_within<H: Host>(alloc: Global, words: &[&str], host: &mut H, b: &Boun
     ensures not_a_store { H.tells_image → result ≡ NOT_A_STORE → (at : ℕ) × (opens (H.now host.old).image ≡ Err at) }
     ensures refused { H.tells_image → (at : ℕ) → opens (H.now host.old).image ≡ Err at → (result ≡ NOT_A_STORE) ⊎ (result ≡ USAGE) ⊎ (result ≡ INPUT_FAULT) ⊎ (result ≡ STORE_FAULT) ⊎ (result ≡ MEMORY) }
     ensures too_long { result ≡ INPUT_TOO_LONG → (H.now host.new).taken ≡ b.now.input }
+    ensures most_taken { ((H.now host.new).taken ≤ b.now.input) ⊎ ((H.now host.new).taken ≡ (H.now host.old).taken) }
     ensures too_long_input { H.tells_input → result ≡ INPUT_TOO_LONG → b.now.input ≤ length (H.now host.old).left }
     ensures status { IsStatus result }
     ensures completeness { H.tells_image → (targets : List (List ℕ × ℤ)) → opens (H.now host.old).image ≡ Ok targets → NoneRose (H.now host.old) (H.now host.new)
@@ -185,9 +187,9 @@ pub fn run<H: Host>(alloc: Global, words: &[&str], host: &mut H) -> u8
 
     // When each other status comes.
     ensures usage { (result ≡ USAGE) ↔ (store_named (map (λ word. word.now) words.now) ≡ None) }
-    ensures input_fault { result ≡ INPUT_FAULT → Rose (H.now host.old).input_faults (H.now host.new).input_faults }
-    ensures store_fault { result ≡ STORE_FAULT → Rose (H.now host.old).store_faults (H.now host.new).store_faults }
-    ensures sink_fault { result ≡ SINK_FAULT → Rose (H.now host.old).sink_faults (H.now host.new).sink_faults }
+    ensures input_fault { result ≡ INPUT_FAULT → RoseByOne (H.now host.old).input_faults (H.now host.new).input_faults }
+    ensures store_fault { result ≡ STORE_FAULT → RoseByOne (H.now host.old).store_faults (H.now host.new).store_faults }
+    ensures sink_fault { result ≡ SINK_FAULT → RoseByOne (H.now host.old).sink_faults (H.now host.new).sink_faults }
     ensures input_alone { result ≡ INPUT_FAULT → OnlyInputFailed (H.now host.old) (H.now host.new) }
     ensures store_alone { result ≡ STORE_FAULT → OnlyStoreFailed (H.now host.old) (H.now host.new) }
     ensures sink_alone { result ≡ SINK_FAULT → OnlySinkFailed (H.now host.old) (H.now host.new) }
@@ -195,6 +197,7 @@ pub fn run<H: Host>(alloc: Global, words: &[&str], host: &mut H) -> u8
     ensures not_a_store { H.tells_image → result ≡ NOT_A_STORE → (at : ℕ) × (opens (H.now host.old).image ≡ Err at) }
     ensures refused { H.tells_image → (at : ℕ) → opens (H.now host.old).image ≡ Err at → (result ≡ NOT_A_STORE) ⊎ (result ≡ USAGE) ⊎ (result ≡ INPUT_FAULT) ⊎ (result ≡ STORE_FAULT) ⊎ (result ≡ MEMORY) }
     ensures too_long { result ≡ INPUT_TOO_LONG → (H.now host.new).taken ≡ INPUT_BOUND }
+    ensures most_taken { ((H.now host.new).taken ≤ INPUT_BOUND) ⊎ ((H.now host.new).taken ≡ (H.now host.old).taken) }
     ensures too_long_input { H.tells_input → result ≡ INPUT_TOO_LONG → INPUT_BOUND ≤ length (H.now host.old).left }
     ensures status { IsStatus result }
     ensures completeness { H.tells_image → (targets : List (List ℕ × ℤ)) → opens (H.now host.old).image ≡ Ok targets → NoneRose (H.now host.old) (H.now host.new)

@@ -1,6 +1,6 @@
 //! The serving of one item.
 ghost use Rattle.std.specs.Prelude.{◌≡◌, ◌≤◌, ◌<◌, ◌⊎◌, ◌++◌, true, List, ℕ, ℤ, length, take, IfOk, IfErr, OnOk, IsOk, IsErrOf, IsTrue, Ok, Some, None};
-ghost use Rattle.abc_outside.specs.Outside.{Rose, IsFaultless, KeepsButStore};
+ghost use Rattle.abc_outside.specs.Outside.{RoseByOne, IsFaultless, KeepsButStore};
 ghost use Rattle.abc_outside.specs.Stop.{Leaves, IsQuiet};
 ghost use Rattle.abc_session.specs.Command.{form_of, put, write, is_some_of, is_letter};
 ghost use Rattle.abc_session.specs.CommandView.{form_of_command, source_of, HasNumber, IsFit};
@@ -98,7 +98,7 @@ fn put_value<H: Host>(
 
     ensures outcome { IfOk result (λ reply. put_outcome store.old.journal.bounds.image k (work_of store.old) name.now value ≡ record { reply = reply.items; work = work_of store.new }) }
     ensures holds { H.tells_image → OnOk result (Holds (H.now host.new).image (work_of store.new)) }
-    ensures fault { IsErrOf result ServeStop.StoreFault → Rose (H.now host.old).store_faults (H.now host.new).store_faults }
+    ensures fault { IsErrOf result ServeStop.StoreFault → RoseByOne (H.now host.old).store_faults (H.now host.new).store_faults }
     ensures faultless { OnOk result ((H.now host.new).store_faults ≡ (H.now host.old).store_faults) }
     ensures not_sink { IsErrOf result ServeStop.SinkFault → ⊥ }
 
@@ -140,7 +140,7 @@ fn answer<H: Host>(
 
     ensures outcome { IfOk result (λ reply. outcome store.old.journal.bounds.image k (work_of store.old) (shown line.now) ≡ record { reply = reply.items; work = work_of store.new }) }
     ensures holds { H.tells_image → OnOk result (Holds (H.now host.new).image (work_of store.new)) }
-    ensures fault { IsErrOf result ServeStop.StoreFault → Rose (H.now host.old).store_faults (H.now host.new).store_faults }
+    ensures fault { IsErrOf result ServeStop.StoreFault → RoseByOne (H.now host.old).store_faults (H.now host.new).store_faults }
     ensures faultless { OnOk result ((H.now host.new).store_faults ≡ (H.now host.old).store_faults) }
     ensures not_sink { IsErrOf result ServeStop.SinkFault → ⊥ }
 
@@ -184,8 +184,8 @@ pub(crate) fn serve_item<H: Host>(
         × ((H.now host.new).said ≡ (H.now host.old).said ++ take n (outcome store.old.journal.bounds.image k (work_of store.old) (shown line.now)).reply) }
     ensures unsaid { (IsErrOf result ServeStop.StoreFault ⊎ IsErrOf result ServeStop.Memory) → (H.now host.new).said ≡ (H.now host.old).said }
     ensures memory { IsErrOf result ServeStop.Memory → host.new ≡ host.old }
-    ensures store_fault { IsErrOf result ServeStop.StoreFault → Rose (H.now host.old).store_faults (H.now host.new).store_faults }
-    ensures sink_fault { IsErrOf result ServeStop.SinkFault → Rose (H.now host.old).sink_faults (H.now host.new).sink_faults }
+    ensures store_fault { IsErrOf result ServeStop.StoreFault → RoseByOne (H.now host.old).store_faults (H.now host.new).store_faults }
+    ensures sink_fault { IsErrOf result ServeStop.SinkFault → RoseByOne (H.now host.old).sink_faults (H.now host.new).sink_faults }
     ensures store_alone { IsErrOf result ServeStop.StoreFault → OnlyStoreFailed (H.now host.old) (H.now host.new) }
     ensures sink_alone { IsErrOf result ServeStop.SinkFault → OnlySinkFailed (H.now host.old) (H.now host.new) }
     ensures faultless { OnOk result (IsFaultless (H.now host.old) (H.now host.new)) }

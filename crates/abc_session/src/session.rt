@@ -1,6 +1,6 @@
 //! The session: items one after the other, to the end of the input.
 ghost use Rattle.std.specs.Prelude.{◌≡◌, ◌≢◌, ◌≤◌, ◌<◌, ◌⊎◌, ◌++◌, suc, [], true, false, List, ℕ, length, ◌+◌, Ok, IfOk, OnOk, IsErrOf, IsTrue, if◌then◌else◌};
-ghost use Rattle.abc_outside.specs.Outside.{Rose, IsFaultless};
+ghost use Rattle.abc_outside.specs.Outside.{RoseByOne, IsFaultless};
 ghost use Rattle.abc_outside.specs.Stop.{Leaves, IsQuiet};
 ghost use Rattle.abc_outside.specs.Session.{joined, HasServed};
 ghost use Rattle.abc_session.specs.Lines.{items_of, lines_of};
@@ -81,15 +81,16 @@ fn turn<H: Host>(
     ensures end { H.tells_input → result ≡ Ok false → (H.now host.new).left ≡ [] }
     ensures end_bound { result ≡ Ok false → reader.new.taken < reader.new.bound }
 
-    ensures input_fault { IsErrOf result SessionStop.Input → Rose (H.now host.old).input_faults (H.now host.new).input_faults }
-    ensures store_fault { IsErrOf result SessionStop.StoreFault → Rose (H.now host.old).store_faults (H.now host.new).store_faults }
-    ensures sink_fault { IsErrOf result SessionStop.SinkFault → Rose (H.now host.old).sink_faults (H.now host.new).sink_faults }
+    ensures input_fault { IsErrOf result SessionStop.Input → RoseByOne (H.now host.old).input_faults (H.now host.new).input_faults }
+    ensures store_fault { IsErrOf result SessionStop.StoreFault → RoseByOne (H.now host.old).store_faults (H.now host.new).store_faults }
+    ensures sink_fault { IsErrOf result SessionStop.SinkFault → RoseByOne (H.now host.old).sink_faults (H.now host.new).sink_faults }
     ensures input_alone { IsErrOf result SessionStop.Input → OnlyInputFailed (H.now host.old) (H.now host.new) }
     ensures store_alone { IsErrOf result SessionStop.StoreFault → OnlyStoreFailed (H.now host.old) (H.now host.new) }
     ensures sink_alone { IsErrOf result SessionStop.SinkFault → OnlySinkFailed (H.now host.old) (H.now host.new) }
     ensures faultless { OnOk result (IsFaultless (H.now host.old) (H.now host.new)) }
     ensures stop_faultless { (IsErrOf result SessionStop.Memory ⊎ IsErrOf result SessionStop.Long) → IsFaultless (H.now host.old) (H.now host.new) }
     ensures long { IsErrOf result SessionStop.Long → reader.new.taken ≡ reader.new.bound }
+    ensures most_taken { reader.new.taken ≤ reader.new.bound }
 
     ensures falls { result ≡ Ok true → used_of reader.old < used_of reader.new }
     ensures counted { OnOk result (served.new ≤ used_of reader.new) }
@@ -171,10 +172,11 @@ pub(crate) fn serve_all<H: Host>(
     ensures in_bound { H.tells_input → OnOk result (length (H.now host.old).left < bound) }
 
     ensures long { IsErrOf result SessionStop.Long → (H.now host.new).taken ≡ bound }
+    ensures most_taken { (H.now host.new).taken ≤ bound }
     ensures long_input { H.tells_input → IsErrOf result SessionStop.Long → bound ≤ length (H.now host.old).left }
-    ensures input_fault { IsErrOf result SessionStop.Input → Rose (H.now host.old).input_faults (H.now host.new).input_faults }
-    ensures store_fault { IsErrOf result SessionStop.StoreFault → Rose (H.now host.old).store_faults (H.now host.new).store_faults }
-    ensures sink_fault { IsErrOf result SessionStop.SinkFault → Rose (H.now host.old).sink_faults (H.now host.new).sink_faults }
+    ensures input_fault { IsErrOf result SessionStop.Input → RoseByOne (H.now host.old).input_faults (H.now host.new).input_faults }
+    ensures store_fault { IsErrOf result SessionStop.StoreFault → RoseByOne (H.now host.old).store_faults (H.now host.new).store_faults }
+    ensures sink_fault { IsErrOf result SessionStop.SinkFault → RoseByOne (H.now host.old).sink_faults (H.now host.new).sink_faults }
     ensures input_alone { IsErrOf result SessionStop.Input → OnlyInputFailed (H.now host.old) (H.now host.new) }
     ensures store_alone { IsErrOf result SessionStop.StoreFault → OnlyStoreFailed (H.now host.old) (H.now host.new) }
     ensures sink_alone { IsErrOf result SessionStop.SinkFault → OnlySinkFailed (H.now host.old) (H.now host.new) }

@@ -1,7 +1,7 @@
 //! The store of a session: the workspace, and the journal that keeps it.
 ghost use Rattle.std.specs.Prelude.{◌≡◌, ◌≤◌, ◌<◌, ◌⊎◌, [], List, ℕ, ℤ, true, length, IfOk, OnOk, IsOk, IsErrOf, IsTrue, Ok, Err, None, Some, MatchOption, Result};
 ghost use Rattle.abc_num.specs.declared.limits.TheConstants.{MOST_LINE_BYTES};
-ghost use Rattle.abc_outside.specs.Outside.{Rose, KeepsButStore};
+ghost use Rattle.abc_outside.specs.Outside.{RoseByOne, KeepsButStore};
 ghost use Rattle.abc_outside.specs.Stop.{Leaves, IsQuiet};
 ghost use Rattle.abc_journal.specs.Image.{settled_image};
 ghost use Rattle.abc_journal.specs.Journal.{BeginsQuiet};
@@ -92,7 +92,7 @@ impl Store {
         ensures unchanged { H.tells_image → (at : ℕ) → opens (H.now host.old).image ≡ Err at → (H.now host.new).image ≡ (H.now host.old).image }
         ensures untouched { H.tells_image → (at : ℕ) → opens (H.now host.old).image ≡ Err at
             → Leaves H.clock H.stopped host.old host.new (H.stopped host.old (H.clock host.old)) }
-        ensures fault { IsErrOf result OpenFault.StoreFault → Rose (H.now host.old).store_faults (H.now host.new).store_faults }
+        ensures fault { IsErrOf result OpenFault.StoreFault → RoseByOne (H.now host.old).store_faults (H.now host.new).store_faults }
         ensures faultless { OnOk result ((H.now host.new).store_faults ≡ (H.now host.old).store_faults) }
         ensures refused_faultless { (IsErrOf result OpenFault.NotAStore ⊎ IsErrOf result OpenFault.Memory) → (H.now host.new).store_faults ≡ (H.now host.old).store_faults }
         ensures rest { KeepsButStore (H.now host.old) (H.now host.new) }
@@ -134,7 +134,7 @@ impl Store {
         ensures holds { H.tells_image → OnOk result (Holds (H.now host.new).image (work_of self.new)) }
         ensures full { IsErrOf result PutFault.StoreFull → self.old.journal.bounds.image < need_of self.old.journal.layout (length (spelled (name.now, value))) }
         ensures fits { (IsErrOf result PutFault.StoreFault ⊎ IsOk result) → (need_of self.old.journal.layout (length (spelled (name.now, value))) ≤ self.old.journal.bounds.image) }
-        ensures fault { IsErrOf result PutFault.StoreFault → Rose (H.now host.old).store_faults (H.now host.new).store_faults }
+        ensures fault { IsErrOf result PutFault.StoreFault → RoseByOne (H.now host.old).store_faults (H.now host.new).store_faults }
         ensures faultless { OnOk result ((H.now host.new).store_faults ≡ (H.now host.old).store_faults) }
 
         ensures same { IsErrOf result PutFault.StoreFull → self.new ≡ self.old }

@@ -1,11 +1,12 @@
 -- Types are equal where their outer forms and parts are, and parts are smaller.
-use Rattle.std.proofs.Common.{◌≡◌, ◌∙◌, ℕ, List, ap, sym}
+use Rattle.std.proofs.Common.{◌≡◌, ◌∙◌, ℕ, ◌+◌, List, ap, sym}
+use Rattle.std.specs.Prelude.{sum, map}
 use Rattle.abc_num.specs.declared.types.Ground.{Ground}
 use Rattle.abc_num.specs.declared.types.Ground.TheOpen.{Ground-F}
 use Rattle.abc_num.specs.declared.types.Ground.TheViews.{out-Ground, roll-Ground, out-roll-Ground, roll-out-Ground}
 use Rattle.abc_num.specs.declared.types.Ground.TheFolds.{fold-roll-Ground}
 use Rattle.abc_num.specs.declared.types.Ground.TheVariants as type
-use Rattle.abc_terms.specs.Sizes.{size, size_step, size_of_form}
+use Rattle.abc_terms.specs.Sizes.{size, size_step}
 use Rattle.abc_num.specs.declared.types.Ground.TheVariants.{rolls-Number, rolls-Text, rolls-List, rolls-Table, rolls-Compound}
 
 -- types of one outer form are one type
@@ -26,6 +27,14 @@ out_table k g = ap out-Ground (sym (rolls-Table k g)) ∙ out-roll-Ground (Groun
 
 pub out_compound : (gs : List Ground) → out-Ground (type.Compound gs) ≡ Ground-F.Compound gs
 out_compound gs = ap out-Ground (sym (rolls-Compound gs)) ∙ out-roll-Ground (Ground-F.Compound gs)
+
+-- the size of a type of this outer form
+abbrev pub size_of_form : Ground-F Ground → ℕ
+size_of_form Ground-F.Number = 0
+size_of_form Ground-F.Text = 0
+size_of_form (Ground-F.Compound fields) = sum (map size fields) + 1
+size_of_form (Ground-F.List element) = size element + 1
+size_of_form (Ground-F.Table key associate) = size key + size associate + 1
 
 size_rolled : (g : Ground-F Ground) → size (roll-Ground g) ≡ size_of_form g
 size_rolled Ground-F.Number = fold-roll-Ground ℕ size_step Ground-F.Number

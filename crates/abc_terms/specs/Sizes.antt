@@ -1,5 +1,5 @@
 -- How large a type is.
-use Rattle.std.specs.Prelude.{ℕ, ◌+◌, sum, map}
+use Rattle.std.specs.Prelude.{ℕ, ◌+◌, sum}
 use Rattle.abc_num.specs.declared.types.Ground.{Ground, fold-Ground}
 use Rattle.abc_num.specs.declared.types.Ground.TheOpen.{Ground-F}
 
@@ -14,11 +14,3 @@ size_step (Ground-F.Table key associate) = key + associate + 1
 -- how many compounds, lists and tables a type has
 abbrev pub size : Ground → ℕ
 size = fold-Ground ℕ size_step
-
--- the size of a type of this outer form
-abbrev pub size_of_form : Ground-F Ground → ℕ
-size_of_form Ground-F.Number = 0
-size_of_form Ground-F.Text = 0
-size_of_form (Ground-F.Compound fields) = sum (map size fields) + 1
-size_of_form (Ground-F.List element) = size element + 1
-size_of_form (Ground-F.Table key associate) = size key + size associate + 1

@@ -9,8 +9,8 @@ use Rattle.std.proofs.lemmas.List.Sums.{sum_by-set, sum_by-cons, sum-map}
 use Rattle.std.specs.List.{AllPairs, Contains, sum_by}
 use Rattle.abc_num.specs.declared.types.Ground.{Ground, out-Ground}
 use Rattle.abc_num.specs.declared.types.Ground.TheOpen.{Ground-F}
-use Rattle.abc_terms.specs.Sizes.{size, size_of_form}
-use Rattle.abc_terms.proofs.Grounds.{size_is}
+use Rattle.abc_terms.specs.Sizes.{size}
+use Rattle.abc_terms.proofs.Grounds.{size_of_form, size_is}
 use Rattle.abc_terms.specs.declared.term.VarId.{VarId}
 use Rattle.abc_unify.specs.declared.kind.Kind.{Kind}
 use Rattle.abc_unify.specs.declared.kind.Kind.TheVariants.{Free, Number, Text, NumberOrText, ListOf, TableOf, TrainOf, CollectionOf, Compound}

@@ -25,7 +25,7 @@ LeadsTo g h = (IsText g × IsText h) ⊎ (size h < size g)
 abbrev pub IsBelow : List Slot → Kind → ℕ → Type 0
 IsBelow slots k r = (x : ℕ) × IsChild k x × (r ≡ root_of slots x)
 
--- a class is to be visited, is on the way, or is done
+-- how often a class is still to be marked: 2 where it is to be visited, 1 on the way, 0 where it is done
 abbrev pub mark_weight : ℕ → ℕ
 mark_weight zero = 2
 mark_weight (suc zero) = 1

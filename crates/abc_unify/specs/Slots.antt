@@ -33,7 +33,7 @@ abbrev pub Stepped : Bool → List Slot → List Ask → List Slot → List Ask 
 Stepped true slots work slots2 work2 = KeepsSolutions slots work slots2 work2
 Stepped false slots work slots2 work2 = HasNoSolution slots work
 
--- a link leads to a smaller number
+-- a kind names only some of the first n variables; a link leads to a smaller number than i
 abbrev pub SlotIn : ℕ → ℕ → Slot → Type 0
 SlotIn n i (Root k) = KindIn n k
 SlotIn n i (Link b) = b.0 < i

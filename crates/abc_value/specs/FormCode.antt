@@ -1,4 +1,4 @@
--- A code of forms, by which the logic tells two forms apart. It says nothing of the language.
+-- A code of forms, by which the logic tells two forms apart, and how deep a form is. It says nothing of the language.
 use Rattle.std.specs.Prelude.{◌≡◌, ℕ, zero, suc, ◌+◌, max, refl}
 use Rattle.std.proofs.Common.{ap, sym, ◌∙◌}
 use base.Stored.{Gv, gnil, gnum, gcons, Coded}

@@ -37,6 +37,7 @@ abbrev mutual
   fits (a_list s) g = (e : Ground) × (g ≡ type.List e) × fits s e
   fits (a_table s t) g = (k : Ground) × (a : Ground) × (g ≡ type.Table k a) × fits s k × fits t a
 
+  -- there are as many types as forms, and each type is of its form
   pub each_fits : Forms → List Ground → Type 0
   each_fits no_forms [] = Unit {0}
   each_fits no_forms (g ∷ gs) = ⊥
@@ -75,11 +76,13 @@ abbrev mutual
   join (a_table k a) (a_table l b) = both a_table (join k l) (join a b)
   join _ _ = None
 
+  -- the joined forms of two rows that are equally long, where each two have one
   pub join_each : Forms → Forms → Option Forms
   join_each no_forms no_forms = Some no_forms
   join_each (more_forms s ss) (more_forms t ts) = both more_forms (join s t) (join_each ss ts)
   join_each _ _ = None
 
+-- the form of the types that are of both forms, where no type is of no form
 abbrev pub joined : Option Form → Option Form → Option Form
 joined (Some s) (Some t) = join s t
 joined _ _ = None
@@ -99,15 +102,17 @@ abbrev mutual
   forms_of no_trees = Some no_forms
   forms_of (more t ts) = both more_forms (form_of t) (forms_of ts)
 
-  -- the form of the types of a form that all these values have
+  -- the form s, joined with the forms of these values
   pub common : Option Form → Trees → Option Form
   common s no_trees = s
   common s (more t ts) = common (joined s (form_of t)) ts
 
+  -- the form s, joined with the forms of the keys
   pub common_key : Option Form → Pairs → Option Form
   common_key s no_pairs = s
   common_key s (pair k a ps) = common_key (joined s (form_of k)) ps
 
+  -- the form s, joined with the forms of the associates
   pub common_associate : Option Form → Pairs → Option Form
   common_associate s no_pairs = s
   common_associate s (pair k a ps) = common_associate (joined s (form_of a)) ps

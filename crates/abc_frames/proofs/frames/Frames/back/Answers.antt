@@ -1,7 +1,5 @@
-use Rattle.std.proofs.Common.{◌≡◌, ◌-◌, length, get_or, sym, ap, ◌∙◌, arith}
-use Rattle.std.proofs.lemmas.Result.{err_from_is_err_and}
-use Rattle.abc_frames.specs.Maps.{with_value_at, without_at}
-use Rattle.abc_frames.proofs.Listing.{changed_current, current_is, unchanged_current, same_entries}
+use Rattle.std.proofs.Common.{◌≡◌, length, arith}
+use Rattle.abc_frames.proofs.Listing.{changed_current}
 use Rattle.abc_frames.proofs.frames.Frames.back.Goals as goal
 
 pub returns : goal.returns
