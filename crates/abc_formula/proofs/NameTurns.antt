@@ -1,13 +1,13 @@
 -- What a turn of the reading of names keeps.
 use Rattle.std.proofs.Common.{◌≡◌, ℕ, Bool, true, false, List, [], ◌∷◌, length, None, Ok, Err, ◌<◌, ap, sym, ◌∙◌, subst}
 use Rattle.std.specs.Prelude.{codes, if◌then◌else◌, Result, IfOk, All}
-use Rattle.abc_formula.specs.Lexemes.{IsSpelled}
+use Rattle.abc_expressions.specs.Lexemes.{IsSpelled}
 use Rattle.abc_formula.specs.declared.bounds.Named.{Named}
-use Rattle.abc_formula.specs.declared.fault.FormulaFault.{FormulaFault}
-use Rattle.abc_formula.specs.declared.fault.FormulaFault.TheVariants as fault
-use Rattle.abc_formula.specs.declared.lexemes.Lexeme.{Lexeme}
-use Rattle.abc_formula.specs.declared.signs.Sign.{Sign}
-use Rattle.abc_formula.specs.Machine.{sign_of}
+use Rattle.abc_expressions.specs.declared.fault.FormulaFault.{FormulaFault}
+use Rattle.abc_expressions.specs.declared.fault.FormulaFault.TheVariants as fault
+use Rattle.abc_expressions.specs.declared.lexemes.Lexeme.{Lexeme}
+use Rattle.abc_expressions.specs.declared.signs.Sign.{Sign}
+use Rattle.abc_expressions.specs.Machine.{sign_of}
 use Rattle.abc_formula.specs.TestGrammar.{is_keyword}
 use Rattle.abc_formula.specs.TestMachine.{FoundNames, Groups, Naming, at_name, behind_name, names_end, names_in}
 use Rattle.abc_formula.specs.TestSteps.{Fewer, NameSteps, FindsNames}

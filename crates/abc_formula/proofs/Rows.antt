@@ -1,89 +1,23 @@
--- Worked expressions and tests, by computing.
+-- Worked tests, by computing. The own names are x and t.
 use Rattle.std.specs.Prelude.{◌≡◌, ℕ, List, [], ◌∷◌, length, Option, Some, None, codes, pos, refl}
 use Rattle.abc_num.specs.Number.{fraction}
 use Rattle.abc_tokens.specs.Scanned as scanned
 use Rattle.abc_tree.specs.declared.formulas.Expr.{Expr}
 use Rattle.abc_tree.specs.declared.formulas.Expr.TheVariants as e
-use Rattle.abc_tree.specs.declared.formulas.Fill.TheVariants as f
-use Rattle.abc_tree.specs.declared.formulas.Piece.TheVariants as p
 use Rattle.abc_tree.specs.declared.formulas.Test.{Test}
 use Rattle.abc_tree.specs.declared.formulas.Test.TheVariants as test
 use Rattle.abc_tree.specs.declared.operations.Op.TheVariants as op
-use Rattle.abc_formula.specs.declared.lexemes.Lexeme.{Lexeme}
+use Rattle.abc_expressions.specs.declared.lexemes.Lexeme.{Lexeme}
 use Rattle.abc_formula.specs.declared.test_frames.Place.TheVariants as place
-use Rattle.abc_formula.specs.Grammar.{own_name, paired}
-use Rattle.abc_formula.specs.Operators.{kind_of, nullary, unary, binary}
-use Rattle.abc_formula.specs.Numbers.{number_at}
-use Rattle.abc_formula.specs.Machine.{read_tokens, converter, reader, run, popped, finished, reach, lexed, conversion_from, split}
+use Rattle.abc_expressions.specs.Grammar.{own_name}
+use Rattle.abc_expressions.specs.Operators.{kind_of}
+use Rattle.abc_expressions.specs.Numbers.{number_at}
+use Rattle.abc_expressions.specs.Machine.{converter, reader, run, popped, finished, reach, lexed, has_bare, conversion_from, split}
 use Rattle.abc_formula.specs.TestGrammar.{link}
 use Rattle.abc_formula.specs.TestMachine.{links_in, test_alone, test_in}
 
--- the own names are x and t
-abbrev read : List ℕ → Option Expr
-read line = read_tokens (converter (codes "x" ∷ codes "t" ∷ []) 100) (codes "x" ∷ codes "t" ∷ []) 100 (lexed line)
-
 abbrev whole : ℕ → Expr
 whole n = e.Number (fraction (pos n) 1)
-
-levels : read (codes "-1**2*3+f 4") ≡ Some (e.Apply2 op.Add (e.Apply2 op.Multiply (e.Apply1 op.Negate (e.Apply2 op.Power (whole 1) (whole 2))) (whole 3)) (e.Call (unary (codes "f")) (whole 4 ∷ [])))
-unfolding run popped finished reach kind_of converter lexed conversion_from split number_at scanned.scanned scanned.word_in_front scanned.ending
-levels = refl
-
-half : read (codes "12.50") ≡ Some (e.Number (fraction (pos 25) 2))
-unfolding run popped finished reach kind_of converter lexed conversion_from split number_at scanned.scanned scanned.word_in_front scanned.ending
-half = refl
-
-texts : read (codes "\"n is `x+1`!\", t@2") ≡ Some (e.Compound (e.Text (p.Chars (codes "n is ") ∷ p.Conversion (e.Apply2 op.Add (own_name 0) (whole 1)) ∷ p.Chars (codes "!") ∷ []) ∷ e.Apply2 op.Behead (own_name 1) (whole 2) ∷ []))
-unfolding run popped finished reach kind_of converter lexed conversion_from split number_at scanned.scanned scanned.word_in_front scanned.ending
-texts = refl
-
-doubled : read (codes "'it''s ``x``'") ≡ Some (e.Text (p.Chars (codes "it's `x`") ∷ []))
-unfolding run popped finished reach kind_of converter lexed conversion_from split number_at scanned.scanned scanned.word_in_front scanned.ending
-doubled = refl
-
-empty_text : read (codes "''") ≡ Some (e.Text [])
-unfolding run popped finished reach kind_of converter lexed conversion_from split number_at scanned.scanned scanned.word_in_front scanned.ending
-empty_text = refl
-
-nested : read (codes "\"a`\"b`\"c\"`\"`\"") ≡ Some (e.Text (p.Chars (codes "a") ∷ p.Conversion (e.Text (p.Chars (codes "b") ∷ p.Conversion (e.Text (p.Chars (codes "c") ∷ [])) ∷ [])) ∷ []))
-unfolding run popped finished reach kind_of converter lexed conversion_from split number_at scanned.scanned scanned.word_in_front scanned.ending
-nested = refl
-
-displays : read (codes "{1; 2..x; {}}") ≡ Some (e.List (f.One (whole 1) ∷ f.Range (whole 2) (own_name 0) ∷ f.One e.Empty ∷ []))
-unfolding run popped finished reach kind_of converter lexed conversion_from split number_at scanned.scanned scanned.word_in_front scanned.ending
-displays = refl
-
-tables : read (codes "{[1, x]: 2; ['a']: {[3]: 4}}") ≡ Some (e.Table (paired (e.Compound (whole 1 ∷ own_name 0 ∷ [])) (whole 2) ∷ paired (e.Text (p.Chars (codes "a") ∷ [])) (e.Table (paired (whole 3) (whole 4) ∷ [])) ∷ []))
-unfolding run popped finished reach kind_of converter lexed conversion_from split number_at scanned.scanned scanned.word_in_front scanned.ending
-tables = refl
-
-selections : read (codes "t[1][x, 2] min f x g t") ≡ Some (e.Call (binary (codes "g")) (e.Apply2 op.LeastAbove (e.Select (e.Select (own_name 1) (whole 1)) (e.Compound (own_name 0 ∷ whole 2 ∷ []))) (e.Call (unary (codes "f")) (own_name 0 ∷ [])) ∷ own_name 1 ∷ []))
-unfolding run popped finished reach kind_of converter lexed conversion_from split number_at scanned.scanned scanned.word_in_front scanned.ending
-selections = refl
-
--- a sign begins no operand
-without_place : read (codes "f -3") ≡ Some (e.Apply2 op.Subtract (e.Call (nullary (codes "f")) []) (whole 3))
-unfolding run popped finished reach kind_of converter lexed conversion_from split number_at scanned.scanned scanned.word_in_front scanned.ending
-without_place = refl
-
--- a name with one place is no operand of @
-trim_of_call : read (codes "t@f 3") ≡ None
-unfolding run popped finished reach kind_of converter lexed conversion_from split number_at scanned.scanned scanned.word_in_front scanned.ending
-trim_of_call = refl
-
-compound_in_list : read (codes "{1, 2}") ≡ None
-unfolding run popped finished reach kind_of converter lexed conversion_from split number_at scanned.scanned scanned.word_in_front scanned.ending
-compound_in_list = refl
-
-selection_of_sum : read (codes "1+t[2]") ≡ Some (e.Apply2 op.Add (whole 1) (e.Select (own_name 1) (whole 2)))
-unfolding run popped finished reach kind_of converter lexed conversion_from split number_at scanned.scanned scanned.word_in_front scanned.ending
-selection_of_sum = refl
-
-membership : read (codes "x in t") ≡ None
-unfolding run popped finished reach kind_of converter lexed conversion_from split number_at scanned.scanned scanned.word_in_front scanned.ending
-membership = refl
-
--- ---- tests, with the same own names
 
 abbrev test_of : Option (List Lexeme) → Option Test
 test_of None = None
@@ -94,15 +28,15 @@ equal a b = test.Chain a (link op.Equal b ∷ [])
 
 -- AND and OR don't stand side by side
 and_or_mixed : test_of (lexed (codes "x=1 AND t=2 OR x=3")) ≡ None
-unfolding test_in links_in run popped finished reach kind_of converter lexed conversion_from split number_at scanned.scanned scanned.word_in_front scanned.ending
+unfolding test_in links_in run popped finished reach kind_of converter lexed has_bare conversion_from split number_at scanned.scanned scanned.word_in_front scanned.ending
 and_or_mixed = refl
 
 -- a parenthesis that ends within a part is one of its expression
 round_first : test_of (lexed (codes "(1)=1 AND (x=2)")) ≡ Some (test.And (equal (whole 1) (whole 1)) (equal (own_name 0) (whole 2)))
-unfolding test_in links_in run popped finished reach kind_of converter lexed conversion_from split number_at scanned.scanned scanned.word_in_front scanned.ending
+unfolding test_in links_in run popped finished reach kind_of converter lexed has_bare conversion_from split number_at scanned.scanned scanned.word_in_front scanned.ending
 round_first = refl
 
 -- nothing is joined to a part behind NOT
 not_and : test_of (lexed (codes "NOT x=1 AND t=2")) ≡ None
-unfolding test_in links_in run popped finished reach kind_of converter lexed conversion_from split number_at scanned.scanned scanned.word_in_front scanned.ending
+unfolding test_in links_in run popped finished reach kind_of converter lexed has_bare conversion_from split number_at scanned.scanned scanned.word_in_front scanned.ending
 not_and = refl

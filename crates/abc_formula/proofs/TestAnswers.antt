@@ -2,11 +2,12 @@
 use Rattle.std.proofs.Common.{◌≡◌, ◌≤◌, ℕ, List, [], ◌∷◌, length, Option, Some, None, ap, subst, arith}
 use Rattle.std.specs.Prelude.{Result, Ok, Err}
 use Rattle.abc_tree.specs.declared.formulas.Test.{Test}
-use Rattle.abc_formula.specs.declared.fault.FormulaFault.{FormulaFault}
-use Rattle.abc_formula.specs.declared.fault.FormulaFault.TheVariants as fault
-use Rattle.abc_formula.specs.declared.lexemes.Lexeme.{Lexeme}
+use Rattle.abc_expressions.specs.declared.fault.FormulaFault.{FormulaFault}
+use Rattle.abc_expressions.specs.declared.fault.FormulaFault.TheVariants as fault
+use Rattle.abc_expressions.specs.declared.lexemes.Lexeme.{Lexeme}
 use Rattle.abc_formula.specs.declared.test_frames.Place.TheVariants as place
-use Rattle.abc_formula.specs.Machine.{ReadsTokens, reader}
+use Rattle.abc_expressions.specs.Machine.{reader}
+use Rattle.abc_expressions.proofs.ReadsTokens.{ReadsTokens}
 use Rattle.abc_formula.specs.TestGrammar.{Tests}
 use Rattle.abc_formula.specs.TestMachine.{FoundTest, test_alone, test_in}
 use Rattle.abc_formula.specs.TestSteps.{AnswersTest}

@@ -16,20 +16,21 @@ use Rattle.abc_tree.specs.declared.formulas.Test.TheVariants as test
 use Rattle.abc_tree.specs.declared.operations.Op.{Op}
 use Rattle.abc_tree.specs.declared.templates.Template.{Template}
 use Rattle.abc_tree.specs.Roles.{is_membership}
-use Rattle.abc_formula.specs.declared.frames.Join.TheVariants as j
-use Rattle.abc_formula.specs.declared.frames.Kind.{Kind}
-use Rattle.abc_formula.specs.declared.frames.Kind.TheVariants as kind
-use Rattle.abc_formula.specs.declared.frames.Reach.TheVariants as r
-use Rattle.abc_formula.specs.declared.signs.Sign.TheVariants as s
-use Rattle.abc_formula.specs.declared.lexemes.Lexeme.{Lexeme}
-use Rattle.abc_formula.specs.declared.lexemes.Lexeme.TheVariants as t
+use Rattle.abc_expressions.specs.declared.frames.Join.TheVariants as j
+use Rattle.abc_expressions.specs.declared.frames.Kind.{Kind}
+use Rattle.abc_expressions.specs.declared.frames.Kind.TheVariants as kind
+use Rattle.abc_expressions.specs.declared.frames.Reach.TheVariants as r
+use Rattle.abc_expressions.specs.declared.signs.Sign.TheVariants as s
+use Rattle.abc_expressions.specs.declared.lexemes.Lexeme.{Lexeme}
+use Rattle.abc_expressions.specs.declared.lexemes.Lexeme.TheVariants as t
 use Rattle.abc_formula.specs.declared.test_frames.Place.{Place}
 use Rattle.abc_formula.specs.declared.test_frames.Place.TheVariants as place
 use Rattle.abc_formula.specs.declared.test_frames.Behind.TheVariants as behind
 use Rattle.abc_formula.specs.declared.test_frames.Front.TheVariants as front
-use Rattle.abc_formula.specs.Operators.{kind_of, infix_by, leftward}
-use Rattle.abc_formula.specs.Grammar.{Spells, own_name}
-use Rattle.abc_formula.specs.Machine.{ReadsTokens, reader, reach_by, reach, sign_of}
+use Rattle.abc_expressions.specs.Operators.{kind_of, infix_by, leftward}
+use Rattle.abc_expressions.specs.Grammar.{Spells, own_name}
+use Rattle.abc_expressions.specs.Machine.{reader, reach_by, reach, sign_of}
+use Rattle.abc_expressions.proofs.ReadsTokens.{ReadsTokens}
 use Rattle.abc_formula.specs.TestGrammar.{is_keyword, quantifier_of, relation_of, membership_of, membership_by, link, is_round, gathered, takes_and, takes_or, Binds, last_name, more_names, BindsPart, one_name, round_names, Relates, last_link, more_links, Tests, alone, negated, quantified, both, either, Parted, round, chain, member, call, refinement}
 use Rattle.abc_formula.specs.TestMachine.{FoundTest, Groups, onward, name_read, behind_name, names_end, names_in, expression_of, FoundLinks, linked, links_by, links_in, lone_by, before, lone, chained, contained, part_by, part_of, Reads, closed, rounded, tight, wrapped, from_keyword, has_test, front_by, front_of, behind_of, joined, from_front, test_in}
 use Rattle.abc_formula.proofs.TestParts.{shorter, front_expression, Ends, expression_found, keyword_is, end_keyword, end_by_relation}

@@ -1,32 +1,33 @@
 -- What tests are told of expressions: where one begins, where it ends, and that it has a token.
 use Rattle.std.proofs.Common.{◌≡◌, ℕ, ◌≤◌, ◌<◌, true, List, [], ◌∷◌, Some, refl, ap, arith, sym, ◌∙◌, subst, length}
 use Rattle.std.specs.Prelude.{All}
-use Rattle.abc_formula.proofs.TokenParts.{all_tail}
+use Rattle.abc_expressions.proofs.TokenParts.{all_tail}
 use Rattle.abc_num.specs.Text.{text_eq}
 use Rattle.abc_num.proofs.Texts.{text_eq-Decides}
 use Rattle.abc_tree.specs.declared.formulas.Expr.{Expr}
 use Rattle.abc_tree.specs.declared.formulas.Fill.{Fill}
 use Rattle.abc_tree.specs.declared.formulas.Pair.{Pair}
 use Rattle.abc_tree.specs.declared.operations.Op.{Op}
-use Rattle.abc_formula.specs.declared.frames.Frame.TheVariants as f
-use Rattle.abc_formula.specs.declared.frames.Group.TheVariants as g
-use Rattle.abc_formula.specs.declared.frames.Join.{Join}
-use Rattle.abc_formula.specs.declared.frames.Reach.{Reach}
-use Rattle.abc_formula.specs.declared.frames.Reach.TheVariants as r
-use Rattle.abc_formula.specs.declared.frames.Turn.TheVariants as turn
-use Rattle.abc_formula.specs.declared.signs.Sign.{Sign}
-use Rattle.abc_formula.specs.declared.signs.Sign.TheVariants as s
-use Rattle.abc_formula.specs.declared.lexemes.Lexeme.{Lexeme}
-use Rattle.abc_formula.specs.declared.lexemes.Lexeme.TheVariants as t
+use Rattle.abc_expressions.specs.declared.frames.Frame.TheVariants as f
+use Rattle.abc_expressions.specs.declared.frames.Group.TheVariants as g
+use Rattle.abc_expressions.specs.declared.frames.Join.{Join}
+use Rattle.abc_expressions.specs.declared.frames.Reach.{Reach}
+use Rattle.abc_expressions.specs.declared.frames.Reach.TheVariants as r
+use Rattle.abc_expressions.specs.declared.frames.Turn.TheVariants as turn
+use Rattle.abc_expressions.specs.declared.signs.Sign.{Sign}
+use Rattle.abc_expressions.specs.declared.signs.Sign.TheVariants as s
+use Rattle.abc_expressions.specs.declared.lexemes.Lexeme.{Lexeme}
+use Rattle.abc_expressions.specs.declared.lexemes.Lexeme.TheVariants as t
 use Rattle.abc_formula.specs.declared.test_frames.Front.TheVariants as front
-use Rattle.abc_formula.specs.Lexemes.{IsSpelled}
-use Rattle.abc_formula.specs.Operators.{lead}
-use Rattle.abc_formula.specs.Grammar.{Spells, number, text, name, call, before, between, select, round, empty, list, table, Parts, one, more, Filler, single, range, Fills, one_fill, more_fills, Entry, entry, Pairs, one_pair, more_pairs}
-use Rattle.abc_formula.specs.Machine.{ReadsTokens, Leaves, reader, reach, within, taken, popped, finished, run}
+use Rattle.abc_expressions.specs.Lexemes.{IsSpelled}
+use Rattle.abc_expressions.specs.Operators.{lead}
+use Rattle.abc_expressions.specs.Grammar.{Spells, number, text, name, call, before, between, select, round, empty, list, table, Parts, one, more, Filler, single, range, Fills, one_fill, more_fills, Entry, entry, Pairs, one_pair, more_pairs}
+use Rattle.abc_expressions.specs.Machine.{Leaves, reader, reach, within, taken, popped, finished, run}
+use Rattle.abc_expressions.proofs.ReadsTokens.{ReadsTokens}
 use Rattle.abc_formula.specs.TestGrammar.{is_keyword, relation_of, relation_by}
 use Rattle.abc_formula.specs.TestMachine.{expression_of, front_of}
-use Rattle.abc_formula.proofs.Levels.{grasp, Follows}
-use Rattle.abc_formula.proofs.Complete.{complete}
+use Rattle.abc_expressions.proofs.Levels.{grasp, Follows}
+use Rattle.abc_expressions.proofs.Complete.{complete}
 
 -- ---- a token at least
 

@@ -1,18 +1,19 @@
 -- What the inner functions for tests keep.
 use Rattle.std.proofs.Common.{◌≡◌, ◌≢◌, ◌-◌, drop, take, ℕ, zero, suc, ◌≤◌, ◌<◌, List, [], ◌∷◌, ◌++◌, length, Some, None, Ok, Err, refl, ap, sym, ◌∙◌, subst, arith}
 use Rattle.std.specs.Prelude.{Result, All, IfOk}
-use Rattle.abc_formula.specs.declared.fault.FormulaFault.{FormulaFault}
-use Rattle.abc_formula.specs.declared.fault.FormulaFault.TheVariants as fault
-use Rattle.abc_formula.specs.declared.tree.Front.{Front as ExpressionFront}
+use Rattle.abc_expressions.specs.declared.fault.FormulaFault.{FormulaFault}
+use Rattle.abc_expressions.specs.declared.fault.FormulaFault.TheVariants as fault
+use Rattle.abc_expressions.specs.declared.tree.ExpressionFront.{ExpressionFront}
 use Rattle.abc_formula.specs.declared.test_frames.Front.{Front}
-use Rattle.abc_formula.specs.declared.lexemes.Lexeme.{Lexeme}
-use Rattle.abc_formula.specs.Lexemes.{IsSpelled}
+use Rattle.abc_expressions.specs.declared.lexemes.Lexeme.{Lexeme}
+use Rattle.abc_expressions.specs.Lexemes.{IsSpelled}
 use Rattle.abc_tree.specs.declared.formulas.Expr.{Expr}
 use Rattle.abc_tree.specs.declared.formulas.Link.{Link}
 use Rattle.abc_tree.specs.declared.operations.Op.{Op}
 use Rattle.std.proofs.lemmas.List.{append_assoc, append-nil, take_all}
-use Rattle.abc_formula.specs.Machine.{ReadsTokens, Leaves, reader}
-use Rattle.abc_formula.specs.Steps.{Finds}
+use Rattle.abc_expressions.specs.Machine.{Leaves, reader}
+use Rattle.abc_expressions.proofs.ReadsTokens.{ReadsTokens}
+use Rattle.abc_expressions.specs.Steps.{Finds}
 use Rattle.abc_formula.specs.TestGrammar.{relation_of, link}
 use Rattle.abc_formula.specs.declared.testing.Advance.{Advance}
 use Rattle.abc_formula.specs.declared.testing.Advance.TheVariants as advance
@@ -22,14 +23,14 @@ use Rattle.abc_formula.specs.declared.test_frames.Place.TheVariants as place
 use Rattle.abc_formula.specs.declared.test_frames.TestFrame.{TestFrame}
 use Rattle.abc_tree.specs.declared.formulas.Quantifier.{Quantifier}
 use Rattle.abc_tree.specs.declared.formulas.Test.{Test}
-use Rattle.abc_formula.specs.declared.signs.Sign.TheVariants as s
-use Rattle.abc_formula.specs.declared.lexemes.Lexeme.TheVariants as t
+use Rattle.abc_expressions.specs.declared.signs.Sign.TheVariants as s
+use Rattle.abc_expressions.specs.declared.lexemes.Lexeme.TheVariants as t
 use Rattle.abc_formula.specs.declared.test_frames.Behind.TheVariants as behind
 use Rattle.abc_formula.specs.declared.test_frames.Front.TheVariants as front
-use Rattle.abc_formula.proofs.TokenParts.{all_tail}
-use Rattle.abc_formula.specs.TestMachine.{FoundTest, Reads, rest_of, wrapped, joined, behind_of, quantifies, tight, closed, rounded, front_of, from_front, test_in, onward, expression_of, FoundLinks, linked, links_by, links_in}
-use Rattle.abc_formula.specs.TestSteps.{Fewer, FindsLinks, FindsTest, Advances, Begins, folded, fold_test, wrapped_by, behind_close, behind_links}
-use Rattle.abc_formula.proofs.Sound.{reads_single}
+use Rattle.abc_expressions.proofs.TokenParts.{all_tail}
+use Rattle.abc_formula.specs.TestMachine.{FoundTest, Reads, rest_of, wrapped, joined, behind_of, quantifies, tight, closed, rounded, made, front_of, from_front, test_in, onward, expression_of, FoundLinks, linked, links_by, links_in}
+use Rattle.abc_formula.specs.TestSteps.{Fewer, FindsLinks, FindsTest, Advances, Begins, folded, fold_test, wrapped_by, behind_close}
+use Rattle.abc_expressions.proofs.Sound.{reads_single}
 use Rattle.abc_formula.proofs.TestParts.{shorter, all_behind}
 
 -- the tokens behind one expression are fewer
@@ -40,6 +41,10 @@ single_rest law own left least tokens (Ok front) all low finds =
 single_rest law own left least tokens (Err f) all low finds = tt
 
 -- ---- chains
+
+-- relations before those that are found
+abbrev pub behind_links : List Link → FoundLinks → FoundLinks
+behind_links links = made (λ more. links ++ more)
 
 module _ (leaves : Leaves) (own : List (List ℕ)) (d n : ℕ) (tokens : List Lexeme) where
   -- these relations were read, and what is left is read with enough turns

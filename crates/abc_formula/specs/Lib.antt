@@ -1,16 +1,4 @@
--- What expressions, tests and addresses are.
-pub mod Signs
-pub mod Lexemes
-pub mod Operators
-pub mod Texts
-pub mod Grammar
-pub mod Numbers
-pub mod Machine
-pub mod Steps
-pub mod Splitting
-pub mod Heights
-pub mod Addresses
-pub mod AddressSteps
+-- What tests are.
 pub mod TestGrammar
 pub mod TestMachine
 pub mod TestSteps

@@ -15,16 +15,16 @@ use Rattle.abc_tree.specs.declared.operations.Op.TheVariants as op
 use Rattle.abc_tree.specs.declared.templates.Template.{Template}
 use Rattle.abc_tree.specs.declared.templates.TemplateKind.TheVariants as template
 use Rattle.abc_tree.specs.Roles.{is_membership}
-use Rattle.abc_formula.specs.declared.frames.Kind.{Kind}
-use Rattle.abc_formula.specs.declared.frames.Kind.TheVariants as kind
-use Rattle.abc_formula.specs.declared.signs.Sign.{Sign}
-use Rattle.abc_formula.specs.declared.signs.Sign.TheVariants as s
-use Rattle.abc_formula.specs.declared.lexemes.Lexeme.{Lexeme}
-use Rattle.abc_formula.specs.declared.lexemes.Lexeme.TheVariants as t
+use Rattle.abc_expressions.specs.declared.frames.Kind.{Kind}
+use Rattle.abc_expressions.specs.declared.frames.Kind.TheVariants as kind
+use Rattle.abc_expressions.specs.declared.signs.Sign.{Sign}
+use Rattle.abc_expressions.specs.declared.signs.Sign.TheVariants as s
+use Rattle.abc_expressions.specs.declared.lexemes.Lexeme.{Lexeme}
+use Rattle.abc_expressions.specs.declared.lexemes.Lexeme.TheVariants as t
 use Rattle.abc_formula.specs.declared.test_frames.Place.{Place}
 use Rattle.abc_formula.specs.declared.test_frames.Place.TheVariants as place
-use Rattle.abc_formula.specs.Operators.{kind_of}
-use Rattle.abc_formula.specs.Grammar.{Spells, own_name}
+use Rattle.abc_expressions.specs.Operators.{kind_of}
+use Rattle.abc_expressions.specs.Grammar.{Spells, own_name}
 
 -- ---- keywords and relations
 

@@ -1,5 +1,6 @@
 -- The same reading of tests, computed: steps of the code. It is proved to find exactly the test that is spelled; no public clause speaks of it.
 use Rattle.std.specs.Prelude.{ℕ, zero, suc, Bool, true, false, ◌&&◌, List, [], ◌∷◌, ◌++◌, Option, None, Some, codes, if◌then◌else◌}
+use Rattle.std.specs.Option.{option_map}
 use Rattle.abc_tree.specs.declared.formulas.Bound.{Bound}
 use Rattle.abc_tree.specs.declared.formulas.Bound.TheVariants as b
 use Rattle.abc_tree.specs.declared.formulas.Expr.{Expr, out-Expr}
@@ -12,23 +13,23 @@ use Rattle.abc_tree.specs.declared.formulas.Quantifier.{Quantifier}
 use Rattle.abc_tree.specs.declared.formulas.Test.{Test}
 use Rattle.abc_tree.specs.declared.formulas.Test.TheVariants as test
 use Rattle.abc_tree.specs.declared.operations.Op.{Op}
-use Rattle.abc_formula.specs.declared.frames.Frame.TheVariants as f
-use Rattle.abc_formula.specs.declared.frames.Group.TheVariants as g
-use Rattle.abc_formula.specs.declared.frames.Kind.{Kind}
-use Rattle.abc_formula.specs.declared.frames.Kind.TheVariants as kind
-use Rattle.abc_formula.specs.declared.frames.Turn.TheVariants as turn
-use Rattle.abc_formula.specs.declared.signs.Sign.{Sign}
-use Rattle.abc_formula.specs.declared.signs.Sign.TheVariants as s
-use Rattle.abc_formula.specs.declared.lexemes.Lexeme.{Lexeme}
-use Rattle.abc_formula.specs.declared.lexemes.Lexeme.TheVariants as t
+use Rattle.abc_expressions.specs.declared.frames.Frame.TheVariants as f
+use Rattle.abc_expressions.specs.declared.frames.Group.TheVariants as g
+use Rattle.abc_expressions.specs.declared.frames.Kind.{Kind}
+use Rattle.abc_expressions.specs.declared.frames.Kind.TheVariants as kind
+use Rattle.abc_expressions.specs.declared.frames.Turn.TheVariants as turn
+use Rattle.abc_expressions.specs.declared.signs.Sign.{Sign}
+use Rattle.abc_expressions.specs.declared.signs.Sign.TheVariants as s
+use Rattle.abc_expressions.specs.declared.lexemes.Lexeme.{Lexeme}
+use Rattle.abc_expressions.specs.declared.lexemes.Lexeme.TheVariants as t
 use Rattle.abc_formula.specs.declared.test_frames.Place.{Place}
 use Rattle.abc_formula.specs.declared.test_frames.Place.TheVariants as place
 use Rattle.abc_formula.specs.declared.test_frames.Front.{Front}
 use Rattle.abc_formula.specs.declared.test_frames.Front.TheVariants as front
 use Rattle.abc_formula.specs.declared.test_frames.Behind.{Behind}
 use Rattle.abc_formula.specs.declared.test_frames.Behind.TheVariants as behind
-use Rattle.abc_formula.specs.Operators.{kind_of}
-use Rattle.abc_formula.specs.Machine.{Found, Leaves, sign_of, run}
+use Rattle.abc_expressions.specs.Operators.{kind_of}
+use Rattle.abc_expressions.specs.Machine.{Found, Leaves, sign_of, run}
 use Rattle.abc_formula.specs.TestGrammar.{is_keyword, quantifier_of, relation_of, membership_of, predicate, link, is_round, gathered, takes_and, takes_or}
 
 -- a test, and the tokens behind it
@@ -39,6 +40,10 @@ FoundTest = Option (Test × List Lexeme)
 abbrev pub onward : {X Y : Type 0} → Option (X × List Lexeme) → (X → List Lexeme → Option Y) → Option Y
 onward None next = None
 onward (Some found) next = next found.0 found.1
+
+-- what is made of what was found, and the tokens behind it
+abbrev pub made : {X Y : Type 0} → (X → Y) → Option (X × List Lexeme) → Option (Y × List Lexeme)
+made f = option_map (λ found. (f found.0, found.1))
 
 -- ---- names
 
@@ -97,8 +102,7 @@ abbrev pub FoundLinks : Type 0
 FoundLinks = Option (List Link × List Lexeme)
 
 abbrev pub linked : Link → FoundLinks → FoundLinks
-linked l None = None
-linked l (Some found) = Some (l ∷ found.0, found.1)
+linked l = made (λ more. l ∷ more)
 
 -- what an expression is that stands alone: the call of a predicate, or a test refinement
 abbrev pub lone_by : Expr-F Expr Fill Piece Pair → Option Test
@@ -107,19 +111,16 @@ lone_by (Expr-F.Name i) = Some (test.Refinement i)
 lone_by _ = None
 
 abbrev pub before : List Lexeme → Option Test → FoundTest
-before rest None = None
-before rest (Some x) = Some (x, rest)
+before rest = option_map (λ a. (a, rest))
 
 abbrev pub lone : Expr → List Lexeme → FoundTest
 lone a rest = before rest (lone_by (out-Expr a))
 
 abbrev pub chained : Expr → FoundLinks → FoundTest
-chained a None = None
-chained a (Some found) = Some (test.Chain a found.0, found.1)
+chained a = made (test.Chain a)
 
 abbrev pub contained : Expr → Op → Found → FoundTest
-contained a o None = None
-contained a o (Some found) = Some (test.Member o a found.0, found.1)
+contained a o = made (test.Member o a)
 
 -- ---- tests
 
@@ -142,8 +143,7 @@ rounded next (suc d) [] = None
 rounded next (suc d) (t ∷ ts) = closed (next place.Whole d ts)
 
 abbrev pub wrapped : (Test → Test) → FoundTest → FoundTest
-wrapped wrap None = None
-wrapped wrap (Some found) = Some (wrap found.0, found.1)
+wrapped = made
 
 abbrev pub from_keyword : List ℕ → List Lexeme → Option (List Lexeme)
 from_keyword word [] = None

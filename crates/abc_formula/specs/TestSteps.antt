@@ -1,11 +1,10 @@
 -- What the inner functions for tests do.
-use Rattle.std.specs.Prelude.{◌≡◌, ◌<◌, ◌+◌, ◌≤◌, ℕ, Bool, List, [], ◌∷◌, ◌++◌, length, Option, Some, None, Result, Ok, Err, All}
-use Rattle.abc_formula.specs.Lexemes.{IsSpelled}
-use Rattle.abc_tree.specs.declared.formulas.Link.{Link}
+use Rattle.std.specs.Prelude.{◌≡◌, ◌<◌, ◌+◌, ◌≤◌, ℕ, Bool, List, [], ◌∷◌, length, Option, Some, None, Result, Ok, Err, All}
+use Rattle.abc_expressions.specs.Lexemes.{IsSpelled}
 use Rattle.abc_tree.specs.declared.formulas.Test.{Test}
 use Rattle.abc_tree.specs.declared.formulas.Test.TheVariants as test
-use Rattle.abc_formula.specs.declared.fault.FormulaFault.{FormulaFault}
-use Rattle.abc_formula.specs.declared.fault.FormulaFault.TheVariants as fault
+use Rattle.abc_expressions.specs.declared.fault.FormulaFault.{FormulaFault}
+use Rattle.abc_expressions.specs.declared.fault.FormulaFault.TheVariants as fault
 use Rattle.abc_formula.specs.declared.bounds.Named.{Named}
 use Rattle.abc_formula.specs.declared.testing.Advance.{Advance}
 use Rattle.abc_formula.specs.declared.testing.Advance.TheVariants as advance
@@ -16,9 +15,10 @@ use Rattle.abc_formula.specs.declared.test_frames.Place.{Place}
 use Rattle.abc_formula.specs.declared.test_frames.TestFrame.{TestFrame}
 use Rattle.abc_formula.specs.declared.test_frames.TestFrame.TheVariants as frame
 use Rattle.abc_formula.specs.declared.test_frames.Place.TheVariants as place
-use Rattle.abc_formula.specs.declared.lexemes.Lexeme.{Lexeme}
-use Rattle.abc_formula.specs.declared.lexemes.Lexeme.TheVariants as t
-use Rattle.abc_formula.specs.declared.signs.Sign.TheVariants as s
+use Rattle.abc_expressions.specs.declared.lexemes.Lexeme.{Lexeme}
+use Rattle.abc_expressions.specs.declared.lexemes.Lexeme.TheVariants as t
+use Rattle.abc_expressions.specs.declared.signs.Sign.TheVariants as s
+use Rattle.abc_expressions.specs.Steps.{Tells}
 use Rattle.abc_formula.specs.TestMachine.{FoundNames, FoundLinks, FoundTest, Groups, Naming, Reads, wrapped}
 
 -- ---- names
@@ -36,10 +36,7 @@ NameCounts (Ok wants) d groups e others = e + length others ≤ d + length group
 NameCounts (Err fault) d groups e others = Unit {0}
 
 abbrev pub FindsNames : Result Named FormulaFault → FoundNames → Type 0
-FindsNames (Ok named) found = found ≡ Some (named.names, named.rest.now)
-FindsNames (Err fault.BadCommand) found = found ≡ None
-FindsNames (Err fault.TooMany) found = ⊥
-FindsNames (Err fault.Memory) found = Unit {0}
+FindsNames = Tells (λ (named : Named). (named.names, named.rest.now))
 
 -- ---- tokens
 
@@ -50,23 +47,12 @@ Fewer rest ts = (length rest < length ts) × All IsSpelled rest
 -- ---- chains
 
 abbrev pub FindsLinks : Result Chain FormulaFault → FoundLinks → Type 0
-FindsLinks (Ok chain) found = found ≡ Some (chain.links, chain.rest.now)
-FindsLinks (Err fault.BadCommand) found = found ≡ None
-FindsLinks (Err fault.TooMany) found = ⊥
-FindsLinks (Err fault.Memory) found = Unit {0}
-
--- relations before those that are found
-abbrev pub behind_links : List Link → FoundLinks → FoundLinks
-behind_links links None = None
-behind_links links (Some found) = Some (links ++ found.0, found.1)
+FindsLinks = Tells (λ (chain : Chain). (chain.links, chain.rest.now))
 
 -- ---- tests
 
 abbrev pub FindsTest : Result TestFront FormulaFault → FoundTest → Type 0
-FindsTest (Ok front) found = found ≡ Some (front.test, front.rest.now)
-FindsTest (Err fault.BadCommand) found = found ≡ None
-FindsTest (Err fault.TooMany) found = ⊥
-FindsTest (Err fault.Memory) found = Unit {0}
+FindsTest = Tells (λ (front : TestFront). (front.test, front.rest.now))
 
 -- the tokens behind `)`, where it is the first
 abbrev pub behind_close : List Lexeme → Option (List Lexeme)
@@ -116,7 +102,4 @@ Begins d machine (Err fault.Memory) = Unit {0}
 
 -- the test of all tokens
 abbrev pub AnswersTest : Result Test FormulaFault → Option Test → Type 0
-AnswersTest (Ok a) found = found ≡ Some a
-AnswersTest (Err fault.BadCommand) found = found ≡ None
-AnswersTest (Err fault.TooMany) found = ⊥
-AnswersTest (Err fault.Memory) found = Unit {0}
+AnswersTest = Tells (λ (a : Test). a)

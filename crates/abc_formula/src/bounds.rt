@@ -1,17 +1,13 @@
 //! The names that a quantifier binds. They are read without recursion.
 ghost use Rattle.std.specs.Prelude.{◌≡◌, ◌+◌, ◌≤◌, ◌∷◌, [], ◌++◌, true, length, All, IfOk, OnOk, OnErr, MatchOption};
-ghost use Rattle.abc_formula.specs.declared.signs.Sign.TheVariants.{Open, Close};
+ghost use Rattle.abc_expressions.specs.declared.signs.Sign.TheVariants.{Open, Close};
 ghost use Rattle.abc_formula.specs.TestGrammar.{gathered};
 ghost use Rattle.abc_formula.specs.TestMachine.{at_name, at_names_sign, behind_name, names_end, names_in, name_read};
 ghost use Rattle.abc_formula.specs.TestSteps.{Fewer, NameSteps, NameCounts, FindsNames};
-ghost use Rattle.abc_formula.specs.Lexemes.{IsSpelled};
+ghost use Rattle.abc_expressions.specs.Lexemes.{IsSpelled};
 
-use crate::fault::FormulaFault;
-use crate::frames::Kind;
-use crate::lexemes::Lexeme;
-use crate::names::{kind_of, sign_of};
-use crate::signs::Sign;
 use crate::test_names::is_keyword;
+use abc_expressions::{FormulaFault, Kind, Lexeme, Sign, kind_of, sign_of};
 use abc_num::{Items, Names, OutOfMemory};
 use abc_tree::{Bound, Bounds, NameId};
 use std::alloc::Global;

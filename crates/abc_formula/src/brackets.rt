@@ -2,9 +2,8 @@
 ghost use Rattle.std.specs.Prelude.{◌≡◌};
 ghost use Rattle.abc_formula.specs.TestGrammar.{opens_bracket, closes_bracket, behind_bracket, ends_part, closes_part, is_round};
 
-use crate::lexemes::Lexeme;
-use crate::signs::Sign;
 use crate::test_names::is_keyword;
+use abc_expressions::{Lexeme, Sign};
 
 fn opens_bracket(token: &Lexeme) -> bool
     ensures { result ≡ opens_bracket token.now }

@@ -2,7 +2,7 @@
 ghost use Rattle.std.specs.Prelude.{◌<◌, ◌+◌, ◌↔◌, IsTrue, map};
 ghost use Rattle.abc_tree.specs.Height.{height, test_height, above};
 
-use crate::height::{a_part_reaches, reaches};
+use abc_expressions::{a_part_reaches, reaches};
 use abc_tree::{Link, Test};
 
 /// Whether the test is higher than `most`.

@@ -1,7 +1,7 @@
 //! What holds of all tests.
 ghost use Rattle.std.specs.Prelude.{◌≡◌, ℕ, List, []};
 ghost use Rattle.abc_tree.specs.declared.formulas.Test.{Test};
-ghost use Rattle.abc_formula.specs.declared.lexemes.Lexeme.{Lexeme};
+ghost use Rattle.abc_expressions.specs.declared.lexemes.Lexeme.{Lexeme};
 ghost use Rattle.abc_formula.specs.declared.test_frames.Place.TheVariants as place;
 ghost use Rattle.abc_formula.specs.TestGrammar.{Tests};
 

@@ -2,10 +2,7 @@
 ghost use Rattle.std.specs.Prelude.{◌≡◌};
 ghost use Rattle.abc_formula.specs.TestGrammar.{is_keyword, quantifier_by, quantifier_of, relation_by, relation_of, membership_by, membership_of};
 
-use crate::frames::Kind;
-use crate::lexemes::Lexeme;
-use crate::names::kind_of;
-use crate::signs::Sign;
+use abc_expressions::{Kind, Lexeme, Sign, kind_of};
 use abc_num::Names;
 use abc_tree::{Op, Quantifier};
 

@@ -1,24 +1,20 @@
 //! Tests. AND, OR, NOT and quantifiers are read with a stack of frames, tests in parentheses by recursion.
 ghost use Rattle.std.specs.Prelude.{◌≡◌, ℕ, suc, ◌<◌, ◌≤◌, ◌++◌, ◌∷◌, [], All, IfOk, IfErr, IfSome, length};
 ghost use Rattle.std.specs.Option.{option_map};
-ghost use Rattle.abc_formula.specs.Lexemes.{IsSpelled};
-ghost use Rattle.abc_formula.specs.Machine.{reader};
+ghost use Rattle.abc_expressions.specs.Lexemes.{IsSpelled};
+ghost use Rattle.abc_expressions.specs.Machine.{reader};
 ghost use Rattle.abc_formula.specs.TestGrammar.{takes_and, takes_or};
 ghost use Rattle.abc_formula.specs.TestMachine.{Reads, expression_of, joined, quantifies, links_in, lone, part_of, tight, rounded, from_front, front_of, behind_of, rest_of, from_keyword, test_in};
 ghost use Rattle.abc_formula.specs.TestSteps.{Fewer, FindsLinks, FindsTest, behind_close, Advances, AdvanceRest, NoMore, Begins};
-ghost use Rattle.abc_formula.specs.Steps.{Finds};
+ghost use Rattle.abc_expressions.specs.Steps.{Finds};
 ghost use Rattle.abc_formula.specs.declared.test_frames.Place.TheVariants.{Whole};
 
 use crate::bounds::names_in;
 use crate::brackets::is_round;
-use crate::fault::FormulaFault;
-use crate::frames::Group;
-use crate::lexemes::Lexeme;
-use crate::signs::Sign;
 use crate::test_frames::{Behind, Front, Place, TestFrame};
 use crate::test_names::{is_keyword, membership_of, quantifier_of, relation_of};
-use crate::tree::{Front as ExpressionFront, tree};
 use crate::wrapping::wrapped_by_all;
+use abc_expressions::{ExpressionFront, FormulaFault, Group, Lexeme, Sign, tree_in_front};
 use abc_num::{Items, Names, Stack};
 use abc_tokens::one_reading;
 use abc_tree::{Expr, Link, Links, Quantifier, Template, TemplateKind, Test};
@@ -66,7 +62,7 @@ fn single<'a>(
     ensures rest { IfOk result (λ front. Fewer front.rest.now tokens.now) }
 {
     one_reading();
-    tree(alloc, own, tokens, left, least, Group::Single)
+    tree_in_front(alloc, own, tokens, left, least, Group::Single)
 }
 
 fn with_link(mut links: Links, last: Link) -> Result<Links, FormulaFault>

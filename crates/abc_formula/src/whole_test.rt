@@ -3,17 +3,16 @@ ghost use Rattle.std.specs.Prelude.{◌≡◌, ◌≤◌, ◌<◌, ℕ, [], Err,
 ghost use Rattle.abc_num.specs.declared.limits.TheConstants.{MOST_BRACKETS, MOST_TREE_HEIGHT};
 ghost use Rattle.abc_tree.specs.Height.{test_height};
 ghost use Rattle.abc_tree.specs.declared.formulas.Test.{Test};
-ghost use Rattle.abc_formula.specs.Lexemes.{seen, ArePart};
-ghost use Rattle.abc_formula.specs.Machine.{reader};
+ghost use Rattle.abc_expressions.specs.Lexemes.{seen, ArePart};
+ghost use Rattle.abc_expressions.specs.Machine.{reader};
 ghost use Rattle.abc_formula.specs.TestGrammar.{Tests};
 ghost use Rattle.abc_formula.specs.TestMachine.{test_alone, test_in};
 ghost use Rattle.abc_formula.specs.TestSteps.{AnswersTest};
 ghost use Rattle.abc_formula.specs.declared.test_frames.Place.TheVariants.{Whole};
 
-use crate::FormulaFault;
-use crate::lexemes::lexemes;
 use crate::test_height::is_test_higher;
 use crate::testing::test_in_front;
+use abc_expressions::{FormulaFault, lexemes_of};
 use abc_num::Names;
 use abc_num::limits::{MOST_BRACKETS, MOST_TREE_HEIGHT};
 use abc_tokens::{Token, one_reading};
@@ -26,7 +25,7 @@ fn whole_test(alloc: Global, toks: &[Token], line: &[u8], own: &Names) -> Result
     ensures { (c n : ℕ) → MOST_BRACKETS ≤ c → length toks.now ≤ n
         → AnswersTest result (test_alone (test_in (reader own.now c) own.now n Whole MOST_BRACKETS (map (seen line.now) toks.now))) }
 {
-    let lexemes = lexemes(alloc, line, toks)?;
+    let lexemes = lexemes_of(alloc, line, toks)?;
     let front = test_in_front(alloc, own, lexemes.as_slice(), MOST_BRACKETS as u8)?;
     if front.rest.is_empty() {
         Ok(front.test)

@@ -1,4 +1,4 @@
-use Rattle.abc_formula.proofs.WholeLine.{whole_part}
+use Rattle.abc_expressions.proofs.WholeLine.{whole_part}
 use Rattle.abc_spellings.proofs.answer_tokens.Goals as goal
 
 pub expression-requires : goal.expression-requires

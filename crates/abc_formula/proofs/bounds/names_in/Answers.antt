@@ -1,8 +1,8 @@
 use Rattle.std.proofs.Common.{◌∙◌, sym, ap, arith, length, Ok, Err, All, subst}
-use Rattle.abc_formula.specs.Lexemes.{IsSpelled}
-use Rattle.abc_formula.proofs.TokenParts.{all_tail}
+use Rattle.abc_expressions.specs.Lexemes.{IsSpelled}
+use Rattle.abc_expressions.proofs.TokenParts.{all_tail}
 use Rattle.std.proofs.lemmas.Result.{err_from_is_err_and}
-use Rattle.abc_formula.proofs.TreeSteps.{none_left}
+use Rattle.abc_expressions.proofs.TreeSteps.{none_left}
 use Rattle.abc_formula.proofs.NameTurns.{wanted_on, behind_on, wanted_refused, behind_refused, ended, no_tokens, steps_of_sign, named_rest}
 use Rattle.abc_formula.proofs.bounds.names_in.Goals as goal
 

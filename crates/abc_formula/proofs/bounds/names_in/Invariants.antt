@@ -1,5 +1,5 @@
 use Rattle.std.proofs.Common.{◌≡◌, ◌+◌, ◌≤◌, ◌∷◌, [], true, length, All}
-use Rattle.abc_formula.specs.Lexemes.{IsSpelled}
+use Rattle.abc_expressions.specs.Lexemes.{IsSpelled}
 use Rattle.abc_formula.specs.TestMachine.{names_in}
 use Rattle.abc_formula.proofs.bounds.names_in.Given as goal
 

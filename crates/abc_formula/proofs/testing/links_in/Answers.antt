@@ -1,9 +1,9 @@
 use Rattle.std.proofs.Common.{◌∙◌, sym, ap, arith, subst, All, length}
 use Rattle.std.proofs.lemmas.Result.{err_from_is_err_and}
-use Rattle.abc_formula.specs.Lexemes.{IsSpelled}
-use Rattle.abc_formula.specs.Machine.{reader}
-use Rattle.abc_formula.proofs.TokenParts.{all_tail}
-use Rattle.abc_formula.proofs.TreeSteps.{none_left}
+use Rattle.abc_expressions.specs.Lexemes.{IsSpelled}
+use Rattle.abc_expressions.specs.Machine.{reader}
+use Rattle.abc_expressions.proofs.TokenParts.{all_tail}
+use Rattle.abc_expressions.proofs.TreeSteps.{none_left}
 use Rattle.abc_formula.proofs.TestTurns.{LinksAre, links_start, links_on, links_refused, links_end, links_last}
 use Rattle.abc_formula.proofs.testing.links_in.Goals as goal
 

@@ -2,7 +2,7 @@ use Rattle.std.proofs.Common.{Ok, Err, map, refl, rules, arith, length}
 use Rattle.std.proofs.lemmas.List.{length-map}
 use Rattle.std.proofs.lemmas.Result.{err_from_is_err_and}
 use Rattle.abc_num.specs.declared.limits.TheConstants.{MOST_BRACKETS}
-use Rattle.abc_formula.specs.Lexemes.{seen}
+use Rattle.abc_expressions.specs.Lexemes.{seen}
 use Rattle.abc_formula.proofs.TestAnswers.{test_found, no_test, never_high}
 use Rattle.abc_formula.proofs.whole_test.test.Goals as goal
 

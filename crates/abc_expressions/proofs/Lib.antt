@@ -1,0 +1,16 @@
+pub mod Rows
+pub mod ReadsTokens
+pub mod Levels
+pub mod Leaves
+pub mod Complete
+pub mod Sound
+pub mod ReaderSteps
+pub mod NumberValues
+pub mod TextParts
+pub mod TokenParts
+pub mod SplitSteps
+pub mod TreeSteps
+pub mod Spelled
+pub mod AddressLaws
+pub mod AddressNames
+pub mod WholeLine
