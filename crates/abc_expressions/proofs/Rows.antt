@@ -7,10 +7,11 @@ use Rattle.abc_tree.specs.declared.formulas.Expr.TheVariants as e
 use Rattle.abc_tree.specs.declared.formulas.Fill.TheVariants as f
 use Rattle.abc_tree.specs.declared.formulas.Piece.TheVariants as p
 use Rattle.abc_tree.specs.declared.operations.Op.TheVariants as op
+use Rattle.abc_expressions.specs.declared.texts.Part.TheVariants as part
 use Rattle.abc_expressions.specs.Grammar.{own_name, paired}
 use Rattle.abc_expressions.specs.Operators.{kind_of, nullary, unary, binary}
 use Rattle.abc_expressions.specs.Numbers.{number_at}
-use Rattle.abc_expressions.specs.Machine.{read_tokens, converter, run, popped, finished, reach, lexed, has_bare, conversion_from, split}
+use Rattle.abc_expressions.specs.Machine.{read_tokens, converter, run, popped, finished, reach, lexed, has_bare, conversion_from, split, split_text}
 
 -- the own names are x and t
 abbrev read : List ℕ → Option Expr
@@ -76,3 +77,12 @@ selection_of_sum = refl
 membership : read (codes "x in t") ≡ None
 unfolding run popped finished reach kind_of converter lexed has_bare conversion_from split number_at scanned.scanned scanned.word_in_front scanned.ending
 membership = refl
+
+-- a comment in a conversion leaves it open, also where a backquote stands in the comment
+comment_in_conversion : split_text (codes "'a`1 \\ b`c'") ≡ None
+unfolding has_bare conversion_from split number_at scanned.scanned scanned.word_in_front scanned.ending
+comment_in_conversion = refl
+
+spaces_in_conversion : split_text (codes "'a` 1 `c'") ≡ Some (part.Characters (codes "a") ∷ part.Conversion (codes " 1 ") ∷ part.Characters (codes "c") ∷ [])
+unfolding has_bare conversion_from split number_at scanned.scanned scanned.word_in_front scanned.ending
+spaces_in_conversion = refl
