@@ -17,6 +17,7 @@ use Rattle.abc_expressions.specs.Grammar as c
 use Rattle.abc_expressions.specs.Grammar.{compound, own_name, Spells, Parts, Spelled}
 use Rattle.abc_expressions.specs.Addresses as a
 use Rattle.abc_expressions.specs.Addresses.{SpellsAddress, Addresses, SpelledAddress}
+use Rattle.abc_expressions.proofs.Truth.{both}
 
 -- ---- the form of an address
 
@@ -78,10 +79,6 @@ parts_form (x ∷ []) h = one (is_address x) refl h
     one true e g = e
     one false e g = cc
 parts_form (x ∷ y ∷ xs) h = form_compound (x ∷ y ∷ xs) ∙ h
-
-both : (x y : Bool) → (x && y) ≡ true → (x ≡ true) × (y ≡ true)
-both true y h = (refl, h)
-both false y h = cc
 
 -- ---- an expression of that form is an address
 

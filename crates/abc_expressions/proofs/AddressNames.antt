@@ -18,6 +18,7 @@ use Rattle.abc_expressions.specs.Lexemes.{ArePart}
 use Rattle.abc_expressions.specs.Addresses.{opened_by, is_bracket, in_key, names_outside, each_once, names_of_address}
 use Rattle.abc_expressions.specs.AddressSteps.{depth_behind, depth_by, names_behind}
 use Rattle.abc_tokens.proofs.TextLaws.{closes_ends}
+use Rattle.abc_expressions.proofs.Truth.{or_true}
 
 -- ---- the count that stands for the open brackets
 
@@ -33,10 +34,6 @@ deeper (suc n) b = suc (suc n)
 abbrev depth_of : List Sign → ℕ
 depth_of [] = 0
 depth_of (b ∷ among) = deeper (depth_of among) b
-
-or_true : (x : Bool) → (x || true) ≡ true
-or_true true = refl
-or_true false = refl
 
 suc_test : (n : ℕ) → (suc n == 0) ≡ false
 suc_test n = ne_eqb (suc n) 0 (λ e. absurd (omega arith))

@@ -18,6 +18,8 @@ use Rattle.abc_expressions.specs.Machine.{bare_by, has_bare, lexed, lexed_by, is
 use Rattle.abc_expressions.specs.Texts.{is_bare, AreBare}
 use Rattle.abc_expressions.proofs.ReadsTokens.{ReadsTokens}
 use Rattle.abc_expressions.proofs.NumberValues.{value_found, value_told}
+use Rattle.abc_tokens.proofs.TextLaws.{some_is}
+use Rattle.abc_expressions.proofs.Truth.{both}
 
 sound_found : (n : List ℕ) → IsSound n → is_sound n ≡ true
 sound_found n h = ap is_some (value_found n h.0 h.1)
@@ -30,10 +32,6 @@ all_found : (ns : List (List ℕ)) → All IsSound ns → list_all is_sound ns �
 all_found [] h = refl
 all_found (n ∷ ns) h = ap (λ x. x && list_all is_sound ns) (sound_found n (h 0 n (omega arith))) ∙ all_found ns (λ k d l. h (suc k) d (omega arith))
 
-both : (a b : Bool) → (a && b) ≡ true → (a ≡ true) × (b ≡ true)
-both true b h = (refl, h)
-both false b h = cc
-
 all_cons : (n : List ℕ) (ns : List (List ℕ)) → IsSound n → All IsSound ns → All IsSound (n ∷ ns)
 all_cons n ns p q zero d l = p
 all_cons n ns p q (suc k) d l = q k d (omega arith)
@@ -41,9 +39,6 @@ all_cons n ns p q (suc k) d l = q k d (omega arith)
 all_told : (ns : List (List ℕ)) → list_all is_sound ns ≡ true → All IsSound ns
 all_told [] h = λ k d l. absurd (omega arith)
 all_told (n ∷ ns) h = let p = both (is_sound n) (list_all is_sound ns) h in all_cons n ns (sound_by n (number_at n) refl p.0) (all_told ns p.1)
-
-some_is : {A : Type 0} {x y : A} → Some x ≡ Some y → x ≡ y
-some_is e = cc
 
 pub lexed_found : ReadsTokens → (line : List ℕ) (ts : List Token) → AreTokens line ts → lexed line ≡ Some (map (seen line) ts)
 unfolding lexed

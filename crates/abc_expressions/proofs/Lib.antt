@@ -1,5 +1,6 @@
 pub mod Rows
 pub mod ReadsTokens
+pub mod Truth
 pub mod Levels
 pub mod Leaves
 pub mod Complete

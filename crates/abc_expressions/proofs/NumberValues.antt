@@ -14,6 +14,7 @@ use Rattle.abc_num.proofs.Integers.{same_value}
 use Rattle.abc_num.proofs.Ratios.{pos_ne}
 use Rattle.abc_expressions.specs.Grammar.{IsValueOf}
 use Rattle.abc_expressions.specs.Numbers.{divisor_within, divisor, is_within, ratio, number_at}
+use Rattle.abc_expressions.proofs.Truth.{or_true}
 
 divides_by : (n a b : ℕ) (x : Bool) → (b == 0) ≡ x → b < suc n → ((c : ℕ) → c < n → IsGcd b c (divisor_within n b c)) → IsGcd a b (if x then a else divisor_within n b (a % b))
 divides_by n a b true e h ih = IsGcd-from_zero a b (eqb-true b 0 e)
@@ -48,10 +49,6 @@ within_by x y false q false s u ep eq er es eu h = cc
 
 within_told : (x y : ℕ) → is_within x y ≡ true → Within x y
 within_told x y h = within_by x y (y == 1) (nat_lt x (2 ^ 127)) (nat_le 2 y) (nat_lt y (2 ^ 63)) (nat_lt x (2 ^ 63)) refl refl refl refl refl h
-
-or_true : (x : Bool) → (x || true) ≡ true
-or_true true = refl
-or_true false = refl
 
 within_found : (x y : ℕ) → Within x y → is_within x y ≡ true
 within_found x y (inl h) =

@@ -11,9 +11,7 @@ use Rattle.abc_expressions.specs.Texts.{with_character, AreBare, IsConversion, S
 use Rattle.abc_expressions.specs.Machine.{Splitting, has_bare, conversion_from, before_parts, converted, at_quote, at_backquote, split}
 use Rattle.abc_expressions.proofs.ReadsTokens.{ReadsTokens}
 use Rattle.abc_expressions.proofs.Leaves.{bare_found, bare_told}
-
-some_is : {A : Type 0} {x y : A} → Some x ≡ Some y → x ≡ y
-some_is e = cc
+use Rattle.abc_expressions.proofs.Truth.{both}
 
 -- passing over bytes is dropping them
 pub split_skip : (q : ℕ) (bytes : List ℕ) (n : ℕ) → split q bytes n ≡ split q (drop n bytes) 0
@@ -46,10 +44,6 @@ drop_front (x ∷ xs) ys y = let e : length (x ∷ xs) + 1 ≡ suc (length xs + 
 one_more : (passed : List ℕ) (b : ℕ) → length (passed ++ b ∷ []) ≡ length passed + 1
 one_more passed b = length-append passed (b ∷ [])
 
-both_true : (x y : Bool) → (x && y) ≡ true → (x ≡ true) × (y ≡ true)
-both_true true y h = (refl, h)
-both_true false y h = cc
-
 -- what a byte gives by the two tests
 abbrev pub table : (q b : ℕ) (bytes : List ℕ) (x y : Bool) → Splitting
 table q b bytes x y = if x then at_quote q bytes (split q bytes) else (if y then at_backquote bytes (split q bytes) else before_parts (with_character b) (split q bytes 0))
@@ -65,7 +59,7 @@ module _ (law : ReadsTokens) where
       → length passed ≤ length inner → (length passed < length inner → conversion_from (passed ++ b ∷ []) bytes ≡ Some inner)
       → (x : Bool) → ((b == backquote) && has_bare passed) ≡ x → (if x then Some passed else conversion_from (passed ++ b ∷ []) bytes) ≡ Some inner
   found_on inner rest passed b bytes is toks first le ih true e =
-      let p = both_true (b == backquote) (has_bare passed) e in
+      let p = both (b == backquote) (has_bare passed) e in
       let t = bare_told law passed p.1 in
       let q : passed ++ b ∷ bytes ≡ passed ++ backquote ∷ bytes = ap (λ z. passed ++ z ∷ bytes) (eqb-true b backquote p.0) in
       let same : length passed ≡ length inner = omega (arith, first passed bytes t.0 q t.1, le) in
@@ -105,7 +99,7 @@ module _ (law : ReadsTokens) where
       → (x : Bool) → ((b == backquote) && has_bare passed) ≡ x → (if x then Some passed else conversion_from (passed ++ b ∷ []) bytes) ≡ Some inner
       → (rest : List ℕ) × IsConversion (passed ++ b ∷ bytes) inner rest
   told_on inner passed b bytes first ih true e h =
-      let p = both_true (b == backquote) (has_bare passed) e in
+      let p = both (b == backquote) (has_bare passed) e in
       let same : passed ≡ inner = cc in
       let q : passed ++ b ∷ bytes ≡ passed ++ backquote ∷ bytes = ap (λ z. passed ++ z ∷ bytes) (eqb-true b backquote p.0) in
       (bytes, subst (λ (z : List ℕ). IsConversion (passed ++ b ∷ bytes) z bytes) same (record { is = q; tokens = bare_told law passed p.1; first = first }))

@@ -12,7 +12,7 @@ use Rattle.abc_tokens.specs.Bytes.{space}
 use Rattle.abc_tokens.specs.Words as words
 use Rattle.abc_tokens.specs.Tokens as tk
 use Rattle.abc_tokens.specs.Tokens.{Tokens, AreTokens, HasFault, IsSound, IsBadNumber, place, token}
-use Rattle.abc_tokens.proofs.TextLaws.{Ends, ends_more, closes_ends}
+use Rattle.abc_tokens.proofs.TextLaws.{Ends, ends_more, closes_ends, some_is}
 use Rattle.abc_expressions.specs.declared.lexemes.Lexeme.{Lexeme}
 use Rattle.abc_expressions.specs.Lexemes.{seen, lexeme_of, ArePart, IsWithin, IsSpelled}
 use Rattle.abc_expressions.specs.Machine.{has_bare, lexed}
@@ -114,9 +114,6 @@ module _ (line : List ℕ) where
       (all_front (λ t. IsSpelled (seen line t)) (front ++ ts) behind (λ k d l. (all_proper (front ++ ts ++ behind) are k d l).1)))
 
 -- ---- a line with a fault has no tokens
-
-some_is : {A : Type 0} {x y : A} → Some x ≡ Some y → x ≡ y
-some_is e = cc
 
 sound_bad : (ns : List (List ℕ)) → All IsSound ns → Any IsBadNumber ns → ⊥
 sound_bad ns h (k, n, l, e, bad) = let s = subst IsSound e (h k n l) in bad s.0 s.1.0 s.1.1

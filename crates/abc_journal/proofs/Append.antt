@@ -7,6 +7,7 @@ use Rattle.std.specs.Prelude.{Ok, nat_lt, ◌==◌, if◌then◌else◌}
 use Rattle.std.specs.Int.{to_be_bytes, from_be_bytes}
 use Rattle.abc_outside.specs.Stop.{written, Torn, Extends, Leaves, IsQuiet}
 use Rattle.abc_outside.proofs.Leaves.{weaken, run_after}
+use Rattle.abc_outside.proofs.Lists.{take-written}
 use Rattle.abc_journal.specs.declared.layout.Layout.{Layout}
 use Rattle.abc_journal.specs.Image.{behind_gate, first_length, opened_at, settled_image, opened, payloads_of, layout_in, layout_of}
 use Rattle.abc_journal.specs.Journal.{HasLayout, after_record, IsBeforeOrAfter}
@@ -17,9 +18,6 @@ use Rattle.abc_journal.proofs.Image.{IsRead, Reads, known, settled_long, still_o
 module _ (old bytes : List ℕ) (at : ℕ) (le : at ≤ length old) where
   grouped : written old at bytes ≡ take at old ++ (bytes ++ drop (at + length bytes) old)
   grouped = append_assoc (take at old) bytes (drop (at + length bytes) old)
-
-  pub written_front : take at (written old at bytes) ≡ take at old
-  written_front = ap (λ (l : List ℕ). take at l) grouped ∙ take_at (take at old) (bytes ++ drop (at + length bytes) old) at (length-take-le at old le)
 
   pub written_back : drop at (written old at bytes) ≡ bytes ++ drop (at + length bytes) old
   written_back = ap (λ (l : List ℕ). drop at l) grouped ∙ drop_at (take at old) (bytes ++ drop (at + length bytes) old) at (length-take-le at old le)
@@ -89,7 +87,7 @@ module _ (image : List ℕ) (layout : Layout) (ps : List (List ℕ)) (h : HasLay
 
   staged_front : take gate staged ≡ take gate image
   staged_front =
-      sym (take-take gate (gate + 1) staged (omega arith)) ∙ ap (λ (l : List ℕ). take gate l) (written_front image (behind_gate payload) (gate + 1) gate_within) ∙ take-take gate (gate + 1) image (omega arith)
+      sym (take-take gate (gate + 1) staged (omega arith)) ∙ ap (λ (l : List ℕ). take gate l) (take-written image (behind_gate payload) (gate + 1) gate_within) ∙ take-take gate (gate + 1) image (omega arith)
 
   staged_back : take (9 + length payload) (drop (gate + 1) staged) ≡ behind_gate payload
   staged_back =
@@ -156,7 +154,7 @@ module _ (image : List ℕ) (layout : Layout) (ps : List (List ℕ)) (h : HasLay
       let back : drop gate c ≡ 1 ∷ drop (gate + 1) staged = ap (λ (l : List ℕ). drop gate l) is ∙ written_back staged (1 ∷ []) gate le in
       let count = length-written staged (1 ∷ []) gate le in (
         record {
-          before = ap (λ (l : List ℕ). take gate l) is ∙ written_front staged (1 ∷ []) gate le;
+          before = ap (λ (l : List ℕ). take gate l) is ∙ take-written staged (1 ∷ []) gate le;
           after = sym (drop-drop 1 gate c) ∙ ap (λ (l : List ℕ). drop 1 l) back;
           no_shorter = omega (arith, ap length is, count);
           no_longer = omega (arith, ap length is, count);

@@ -8,7 +8,8 @@ use Rattle.abc_journal.specs.Image.{Opened, fresh_image, read_image, opened, pay
 use Rattle.abc_journal.specs.declared.faults.BeginFault.{BeginFault}
 use Rattle.abc_journal.specs.declared.faults.BeginFault.TheVariants.{NotAStore, StoreFault, Memory}
 use Rattle.abc_journal.specs.Journal.{IfNotAStore, HasLayout, IsAsRead, BeginsQuiet, IsSame}
-use Rattle.abc_journal.proofs.Image.{settled_long, settled_short, settled_fresh, opened_extended, result_cases, no_err}
+use Rattle.abc_journal.proofs.Image.{settled_long, settled_short, settled_fresh, opened_extended}
+use Rattle.abc_journal.proofs.Follow.{result_cases, no_err}
 
 abbrev pub fresh_layout : Layout
 fresh_layout = record { size = 65; generation = 1; start = 64; gate = 64; first = 0; slot = 0; other = false }

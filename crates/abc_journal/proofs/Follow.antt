@@ -98,14 +98,14 @@ pub record Found (image : List ℕ) (at : ℕ) (region : Region) : Type 0 where
   pub within : region.gate < length image
   pub closed : get_or image region.gate 0 ≢ 1
 
-result_cases : {T : Type 0} (r : Result T ℕ) → ((x : T) × (r ≡ Ok x)) ⊎ ((e : ℕ) × (r ≡ Err e))
+pub result_cases : {T : Type 0} (r : Result T ℕ) → ((x : T) × (r ≡ Ok x)) ⊎ ((e : ℕ) × (r ≡ Err e))
 result_cases (Ok x) = inl (x, refl)
 result_cases (Err e) = inr (e, refl)
 
-ok_is : {T : Type 0} (r : Result T ℕ) (x y : T) → r ≡ Ok x → r ≡ Ok y → x ≡ y
+pub ok_is : {T : Type 0} (r : Result T ℕ) (x y : T) → r ≡ Ok x → r ≡ Ok y → x ≡ y
 ok_is r x y one other = cc
 
-no_err : {T : Type 0} (r : Result T ℕ) (x : T) (e : ℕ) → r ≡ Err e → r ≡ Ok x → ⊥
+pub no_err : {T : Type 0} (r : Result T ℕ) (x : T) (e : ℕ) → r ≡ Err e → r ≡ Ok x → ⊥
 no_err r x e one other = cc
 
 pub found : (n : ℕ) (image : List ℕ) (at : ℕ) (region : Region) → follow n image at ≡ Ok region → Found image at region

@@ -11,7 +11,7 @@ use Rattle.abc_journal.specs.declared.faults.BeginFault.{BeginFault}
 use Rattle.abc_journal.specs.declared.faults.BeginFault.TheVariants.{NotAStore, StoreFault, Memory}
 use Rattle.abc_journal.specs.Region.{IsRegion}
 use Rattle.abc_journal.specs.Journal.{HasLayout, IfNotAStore}
-use Rattle.abc_journal.proofs.Follow.{Follows, IsRecord, from_behind_head, reach, then_record, to_closed, found, same_byte, same_region}
+use Rattle.abc_journal.proofs.Follow.{result_cases, ok_is, no_err, Follows, IsRecord, from_behind_head, reach, then_record, to_closed, found, same_byte, same_region}
 
 -- the head names a live slot, whose region has these payloads up to this gate
 pub record Reads (image : List ℕ) (live : Live) (ps : List (List ℕ)) (gate : ℕ) : Type 0 where
@@ -35,16 +35,6 @@ pub record IsRead (image : List ℕ) (layout : Layout) (ps : List (List ℕ)) : 
   pub live : Live
   pub reads : Reads image live ps layout.gate
   pub layout_is : layout ≡ (opened_at (length image) live (record { payloads = ps; gate = layout.gate })).layout
-
-pub result_cases : {T : Type 0} (r : Result T ℕ) → ((x : T) × (r ≡ Ok x)) ⊎ ((e : ℕ) × (r ≡ Err e))
-result_cases (Ok x) = inl (x, refl)
-result_cases (Err e) = inr (e, refl)
-
-pub ok_is : {T : Type 0} (r : Result T ℕ) (x y : T) → r ≡ Ok x → r ≡ Ok y → x ≡ y
-ok_is r x y one other = cc
-
-pub no_err : {T : Type 0} (r : Result T ℕ) (x : T) (e : ℕ) → r ≡ Err e → r ≡ Ok x → ⊥
-no_err r x e one other = cc
 
 pub is_read : (image : List ℕ) (o : Opened) → read_image image ≡ Ok o → IsRead image o.layout o.payloads
 unfolding read_image

@@ -3,6 +3,6 @@ pub mod Endings
 pub mod Points
 pub mod Quiet
 mod Tears
-mod Lists
+pub mod Lists
 mod Calls
 mod Rows
