@@ -1,10 +1,8 @@
 -- Elements of trains by their place.
 use Rattle.std.proofs.Common.{◌≡◌, ℕ, suc, zero, ◌+◌, ◌<◌, List, [], ◌∷◌, length, get_or, map, refl, sym, ap, ◌∙◌, subst, arith, slice_get, Some, None, add-one, pos, Result, Ok}
-use Rattle.std.proofs.lemmas.List.{length-map}
 use Rattle.std.proofs.lemmas.Option.{slice_get-get_or, get_or_from_slice_get}
 use Rattle.std.specs.Option.{ok_or}
-use Rattle.abc_value.specs.Tree.{Tree, number, text, compound, list, table, trees, listed, listed_pairs, no_trees, more, no_pairs, pair}
-use Rattle.abc_value.specs.Sizes.{length_of, count, count_pairs}
+use Rattle.abc_value.specs.Tree.{Tree, number, text, compound, list, table, trees, listed, listed_pairs, no_trees, more}
 use Rattle.abc_value.specs.Regular.{IsRegular, IsOrdered, AllRegular}
 use Rattle.abc_value.specs.Parts.{IsText, IsList, parts_of}
 use Rattle.abc_num.specs.Number.{Fraction, whole_number, whole_of}
@@ -13,22 +11,6 @@ use Rattle.abc_value.specs.declared.faults.ValueFault.TheVariants.{OutOfRange}
 use Rattle.abc_value.specs.Items.{IsTrain, IsAnswer, elements_of, item_of}
 use Rattle.abc_value.specs.Items as items
 use Rattle.abc_predef.specs.Places.{element_at}
-
-count_listed : (ts : _) → length (listed ts) ≡ count ts
-count_listed no_trees = refl
-count_listed (more t ts) = ap suc (count_listed ts)
-
-count_listed_pairs : (ps : _) → length (map (λ (p : Tree × Tree). p.1) (listed_pairs ps)) ≡ count_pairs ps
-count_listed_pairs no_pairs = refl
-count_listed_pairs (pair k a ps) = ap suc (count_listed_pairs ps)
-
--- a train has as many elements as its length
-pub elements_count : (t : Tree) → IsTrain t → length_of t ≡ length (elements_of t)
-elements_count (number n) h = absurd h
-elements_count (text b) h = sym (length-map b (λ c. text (c ∷ [])))
-elements_count (compound ts) h = absurd h
-elements_count (list ts) h = sym (count_listed ts)
-elements_count (table ps) h = sym (count_listed_pairs ps)
 
 part_there : (xs : List Tree) (i : ℕ) → i < length xs → slice_get xs i ≡ None → ⊥
 part_there [] i l e = absurd (omega arith)

@@ -17,7 +17,7 @@ mod trains;
 pub use apply::{apply1, apply2, holds2};
 pub use laws::{operations_are_spelled, operations_are_typed, results_have_their_types};
 pub use lookup::predefined;
-pub use table::{Letter, Operands, ROWS, Row, Rows, TABLE};
+pub use table::{Letter, Operands, Row, Rows, TABLE};
 
 #[cfg(test)]
 mod tests;

@@ -3,7 +3,7 @@ ghost use Rattle.std.specs.Prelude.{◌≡◌};
 ghost use Rattle.abc_predef.specs.declared.table.TheConstants.{TABLE};
 ghost use Rattle.abc_predef.specs.Order.{named};
 
-use crate::ROWS;
+use crate::table::ROWS;
 use abc_tree::Op;
 
 /// The operation of the predefined row that has this name and number of places. None where no row has them.

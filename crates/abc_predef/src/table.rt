@@ -109,7 +109,7 @@ pub const TABLE: [Row; 43] = rows![
 ];
 
 /// The rows, in order.
-pub const ROWS: Rows<43> = Rows { rows: TABLE };
+pub(crate) const ROWS: Rows<43> = Rows { rows: TABLE };
 
 impl Row {
     /// The name or sign of the row.

@@ -5,7 +5,7 @@ use Rattle.abc_value.specs.Tree.{Tree}
 use Rattle.abc_value.specs.Items.{elements_of}
 use Rattle.abc_value.proofs.Rows.{take_all}
 use Rattle.abc_predef.specs.Places.{IsPlaceOfBest, is_wanted}
-use Rattle.abc_predef.proofs.Elements.{elements_count}
+use Rattle.abc_value.proofs.Itemised.{elements_count}
 use Rattle.abc_predef.proofs.Bests.{wanted_more}
 use Rattle.abc_predef.proofs.extremes.best_place.Goals as goal
 

@@ -5,7 +5,7 @@ use Rattle.abc_value.specs.Order.{order}
 use Rattle.abc_value.specs.Items.{elements_of}
 use Rattle.abc_value.proofs.Rows.{take_all}
 use Rattle.abc_predef.specs.Places.{element_at}
-use Rattle.abc_predef.proofs.Elements.{elements_count}
+use Rattle.abc_value.proofs.Itemised.{elements_count}
 use Rattle.abc_predef.proofs.Halves.{count_more, index_of_equal, byte_is}
 use Rattle.abc_predef.proofs.trains.count_one_by_one.Goals as goal
 
