@@ -2,7 +2,7 @@
 ghost use Rattle.std.specs.Prelude.{◌≡◌, ◌≤◌, ◌<◌, ◌+◌, ◌↔◌, ◌⊎◌, ◌++◌, true, false, [], ◌∷◌, List, ℕ, length, Ok, Err, IfOk, OnOk, IsErrOf, IsTrue};
 ghost use Rattle.abc_outside.specs.Outside.{RoseByOne, KeepsButStore};
 ghost use Rattle.abc_outside.specs.Stop.{written, Leaves, IsQuiet};
-ghost use Rattle.abc_journal.specs.Image.{opened, payloads_of, settled_image, behind_gate};
+ghost use Rattle.abc_journal.specs.Image.{opened, payloads_of, fresh_image, settled_image, behind_gate};
 ghost use Rattle.abc_journal.specs.Journal.{HasLayout, need_of, after_record, IfNotAStore, IsNotAStore, IsNoFault, IsFull, SaysNeed, BeginsQuiet, IsSame, IsBeforeOrAfter};
 
 use crate::format::{FRESH_BYTES, OPEN};
@@ -57,6 +57,8 @@ impl Journal {
         ensures unchanged { (IsNotAStore result ⊎ IsErrOf result BeginFault.Memory) → (H.now host.new).image ≡ (H.now host.old).image }
         ensures long { H.tells_image → FRESH_BYTES < length (H.now host.old).image → (H.now host.new).image ≡ (H.now host.old).image }
         ensures long_stops { H.tells_image → FRESH_BYTES < length (H.now host.old).image
+            → Leaves H.clock H.stopped host.old host.new (H.stopped host.old (H.clock host.old)) }
+        ensures fresh { H.tells_image → (H.now host.old).image ≡ fresh_image
             → Leaves H.clock H.stopped host.old host.new (H.stopped host.old (H.clock host.old)) }
         ensures untouched { (IsNotAStore result ⊎ IsErrOf result BeginFault.Memory)
             → Leaves H.clock H.stopped host.old host.new (H.stopped host.old (H.clock host.old)) }

@@ -52,6 +52,7 @@ pub fn settle<H: Host>(host: &mut H, size: u64) -> Result<(), Failed>
     ensures durable { H.tells_image → OnOk result ((c s : List ℕ) → H.stopped host.new (H.clock host.new) c s
         → (H.stopped host.old (H.clock host.old) c s × ((H.now host.old).image ≡ fresh_image)) ⊎ (c ≡ fresh_image)) }
     ensures stops { Leaves H.clock H.stopped host.old host.new (λ c s. (d : List ℕ) × H.stopped host.old (H.clock host.old) d s × Torn 0 FRESH_BYTES d c) }
+    ensures fresh { H.tells_image → (H.now host.old).image ≡ fresh_image → Leaves H.clock H.stopped host.old host.new (H.stopped host.old (H.clock host.old)) }
     ensures rest { KeepsButStore (H.now host.old) (H.now host.new) }
     ensures cause { OnErr result (RoseByOne (H.now host.old).store_faults (H.now host.new).store_faults) }
     ensures faultless { OnOk result ((H.now host.new).store_faults ≡ (H.now host.old).store_faults) }

@@ -1,5 +1,5 @@
 //! The host in memory: an image, an input and what was said, with calls that fail where a test wants it.
-ghost use Rattle.std.specs.Prelude.{◌≡◌, ◌≢◌, ◌≤◌, ◌<◌, ◌+◌, ◌-◌, ◌^◌, ◌++◌, [], ◌∷◌, List, ℕ, option_map, length, take, drop, min, vec_len, is_err, IfOk, OnOk, OnErr, IsSome, IsNone, IsErrOf};
+ghost use Rattle.std.specs.Prelude.{◌≡◌, ◌≢◌, ◌≤◌, ◌<◌, ◌+◌, ◌-◌, ◌^◌, ◌++◌, [], ◌∷◌, List, ℕ, option_map, length, take, drop, min, vec_len, is_err, IfOk, OnOk, OnErr, true, IsSome, IsNone, IsErrOf};
 ghost use Rattle.abc_outside.specs.Outside.{RoseByOne, IsFaultless, KeepsButStore, KeepsButInput, KeepsButSaid, KeepsButChoice};
 ghost use Rattle.abc_outside.specs.Stop.{written, Torn, Shortened, Passes};
 
@@ -182,6 +182,7 @@ impl Host for MemoryHost {
         ensures input_cause_alone { IsErrOf result ChooseFault.Input → (outside_of self.new).store_faults ≡ (outside_of self.old).store_faults }
         ensures faultless { OnOk result (IsFaultless (outside_of self.old) (outside_of self.new)) }
         ensures called { IsCalled CallKind.Choose (is_err result) self.old self.new }
+        ensures listed_alone { is_next_listed CallKind.Choose self.old ≡ true → starved_in self.new ≡ starved_in self.old }
     {
         if next_fails(&mut self.listed, CallKind::Choose) {
             return Err(choose_fault(input, &mut self.input_faults, &mut self.store_faults));
@@ -212,6 +213,9 @@ impl Host for MemoryHost {
         ensures cause { OnErr result (RoseByOne (outside_of self.old).input_faults (outside_of self.new).input_faults) }
         ensures faultless { OnOk result (IsFaultless (outside_of self.old) (outside_of self.new)) }
         ensures called { IsCalled CallKind.Read (is_err result) self.old self.new }
+        ensures behind { IfOk result (λ n. drop n buf.new ≡ drop n buf.old) }
+        ensures err_buf { OnErr result (buf.new ≡ buf.old) }
+        ensures listed_alone { is_next_listed CallKind.Read self.old ≡ true → starved_in self.new ≡ starved_in self.old }
     {
         if next_fails(&mut self.listed, CallKind::Read) {
             raise(&mut self.input_faults);
@@ -260,6 +264,7 @@ impl Host for MemoryHost {
         ensures cause { OnErr result (RoseByOne (outside_of self.old).store_faults (outside_of self.new).store_faults) }
         ensures faultless { OnOk result (IsFaultless (outside_of self.old) (outside_of self.new)) }
         ensures called { IsCalled CallKind.ReadAt (is_err result) self.old self.new }
+        ensures err_buf { OnErr result (buf.new ≡ buf.old) }
         ensures exactly { is_err result ≡ is_next_listed CallKind.ReadAt self.old }
         ensures starved { starved_in self.new ≡ starved_in self.old }
     {
@@ -344,6 +349,7 @@ impl Host for MemoryHost {
         ensures cause { OnErr result (RoseByOne (outside_of self.old).store_faults (outside_of self.new).store_faults) }
         ensures faultless { OnOk result (IsFaultless (outside_of self.old) (outside_of self.new)) }
         ensures called { IsCalled CallKind.Sync (is_err result) self.old self.new }
+        ensures listed_alone { is_next_listed CallKind.Sync self.old ≡ true → starved_in self.new ≡ starved_in self.old }
     {
         if next_fails(&mut self.listed, CallKind::Sync) {
             raise(&mut self.store_faults);
@@ -371,6 +377,7 @@ impl Host for MemoryHost {
         ensures cause { OnErr result (RoseByOne (outside_of self.old).sink_faults (outside_of self.new).sink_faults) }
         ensures faultless { OnOk result (IsFaultless (outside_of self.old) (outside_of self.new)) }
         ensures called { IsCalled CallKind.Say (is_err result) self.old self.new }
+        ensures listed_alone { is_next_listed CallKind.Say self.old ≡ true → starved_in self.new ≡ starved_in self.old }
     {
         if next_fails(&mut self.listed, CallKind::Say) {
             raise(&mut self.sink_faults);

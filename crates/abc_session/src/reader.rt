@@ -59,7 +59,7 @@ fn make_piece(alloc: Global, size: usize) -> Result<Vec<u8>, AllocError>
     vec![in alloc; 0u8; size]
 }
 
-ghost use Rattle.abc_session.specs.Asking.{Asked, AsksNow};
+ghost use Rattle.abc_session.specs.Asking.{Asked, AsksNow, AskedRising, next_ask};
 
 /// Reads once into the piece, at most so many bytes.
 fn read_piece<H: Host>(host: &mut H, piece: &mut [u8], most: u64) -> Result<usize, LineStop>
@@ -76,6 +76,8 @@ fn read_piece<H: Host>(host: &mut H, piece: &mut [u8], most: u64) -> Result<usiz
     ensures failed { OnErr result ((H.now host.new).taken ≡ (H.now host.old).taken) }
     ensures failed_left { OnErr result ((H.now host.new).left ≡ (H.now host.old).left) }
     ensures asked { H.tells_said → Asked (AsksNow (H.now host.old).taken (length (H.now host.old).said)) (H.now host.old).asked (H.now host.new).asked }
+    ensures asks_once { H.tells_said → OnOk result ((H.now host.new).asked ≡ (H.now host.old).asked ++ ((H.now host.old).taken, length (H.now host.old).said) ∷ []) }
+    ensures failed_asked { OnErr result ((H.now host.new).asked ≡ (H.now host.old).asked) }
     ensures rest { KeepsButInput (H.now host.old) (H.now host.new) }
     ensures stops { Leaves H.clock H.stopped host.old host.new (H.stopped host.old (H.clock host.old)) }
     ensures now { (c s : List ℕ) → H.stopped host.new (H.clock host.new) c s → H.stopped host.old (H.clock host.old) c s }
@@ -166,6 +168,7 @@ impl Reader {
         ensures counts { (H.now host.new).taken ≡ self.new.taken }
         ensures bound { self.new.bound ≡ self.old.bound }
         ensures asked { H.tells_said → Asked (AsksNow self.old.taken (length (H.now host.old).said)) (H.now host.old).asked (H.now host.new).asked }
+        ensures asks_rise { H.tells_said → AskedRising self.old.taken (next_ask self.new.taken self.new.ended) (H.now host.old).asked (H.now host.new).asked }
         ensures rest { KeepsButInput (H.now host.old) (H.now host.new) }
         ensures stops { Leaves H.clock H.stopped host.old host.new (H.stopped host.old (H.clock host.old)) }
         ensures now { (c s : List ℕ) → H.stopped host.new (H.clock host.new) c s → H.stopped host.old (H.clock host.old) c s }
@@ -209,6 +212,7 @@ impl Reader {
         ensures bound { self.new.bound ≡ self.old.bound }
         ensures asked { H.tells_said → H.tells_input
             → Asked (AsksMore (pending_of self.old) (H.now host.old).left self.old.taken (length (H.now host.old).said)) (H.now host.old).asked (H.now host.new).asked }
+        ensures asks_rise { H.tells_said → AskedRising (next_ask self.old.taken self.old.ended) (next_ask self.new.taken self.new.ended) (H.now host.old).asked (H.now host.new).asked }
         ensures stays_ended { self.old.ended ≡ true → self.new.ended ≡ true }
         ensures ended_asks { self.old.ended ≡ true → (H.now host.new).asked ≡ (H.now host.old).asked }
         ensures ended_ends { self.old.ended ≡ true → (IsErrOf result LineStop.Long ⊎ IsErrOf result LineStop.Input) → ⊥ }

@@ -1,10 +1,10 @@
 //! The run: words in, a status out.
-ghost use Rattle.std.specs.Prelude.{◌≡◌, ◌≢◌, ◌⊎◌, ◌≤◌, ◌<◌, ◌↔◌, List, ℕ, ℤ, map, length, Ok, Err, None, Some, option_map};
+ghost use Rattle.std.specs.Prelude.{◌≡◌, ◌≢◌, ◌⊎◌, ◌≤◌, ◌<◌, ◌↔◌, suc, List, ℕ, ℤ, map, length, Ok, Err, None, Some, option_map};
 ghost use Rattle.abc_outside.specs.Outside.{RoseByOne, IsFaultless};
 ghost use Rattle.abc_outside.specs.Session.{IsBetween, IsBroken, IsCutShort};
 ghost use Rattle.abc_outside.specs.Stop.{Leaves, IsQuiet, Now};
 ghost use Rattle.abc_journal.specs.Journal.{BeginsQuiet};
-ghost use Rattle.abc_session.specs.Asking.{Asked};
+ghost use Rattle.abc_session.specs.Asking.{Asked, AskedRising};
 ghost use Rattle.abc_session.specs.Workspace.{opens};
 ghost use Rattle.abc_session.specs.Session.{Work, after, replies};
 ghost use Rattle.abc_session.specs.Serving.{OpensTo, works, IsSessionPoint, NoneFell, IsStill, OnlyInputFailed, OnlyStoreFailed, OnlySinkFailed};
@@ -75,6 +75,7 @@ fn run_store<H: Host>(alloc: Global, host: &mut H, b: &Bounds) -> u8
     // What was asked for, and what stands after each status but 0, 2 and 6.
     ensures asked { H.tells_image → H.tells_said → H.tells_input → (work : Work) → IsStart (H.now host.old).image work
         → Asked (AsksSettled b.now.image work (H.now host.old).left (length (H.now host.old).said)) (H.now host.old).asked (H.now host.new).asked }
+    ensures asks_rise { H.tells_said → AskedRising 0 (suc (H.now host.new).taken) (H.now host.old).asked (H.now host.new).asked }
     ensures waiting { H.tells_image → H.tells_said → H.tells_input → BeginsQuiet H.clock H.stopped host.old (H.now host.old).image
         → (work : Work) → IsStart (H.now host.old).image work → ((result ≡ INPUT_FAULT) ⊎ (result ≡ INPUT_TOO_LONG))
         → IsWaiting b.now.image work (H.now host.old).left (H.now host.old).said (H.now host.new) (Now H.clock H.stopped host.new) }
@@ -145,6 +146,7 @@ pub fn run_within<H: Host>(alloc: Global, words: &[&str], host: &mut H, b: &Boun
     // What was asked for, and what stands after each status but 0, 2 and 6.
     ensures asked { H.tells_image → H.tells_said → H.tells_input → (work : Work) → IsStart (H.now host.old).image work
         → Asked (AsksSettled b.now.image work (H.now host.old).left (length (H.now host.old).said)) (H.now host.old).asked (H.now host.new).asked }
+    ensures asks_rise { H.tells_said → AskedRising 0 (suc (H.now host.new).taken) (H.now host.old).asked (H.now host.new).asked }
     ensures waiting { H.tells_image → H.tells_said → H.tells_input → IsStill H.clock H.stopped host.old (H.now host.old).image
         → (work : Work) → IsStart (H.now host.old).image work → ((result ≡ INPUT_FAULT) ⊎ (result ≡ INPUT_TOO_LONG))
         → IsWaiting b.now.image work (H.now host.old).left (H.now host.old).said (H.now host.new) (Now H.clock H.stopped host.new) }
@@ -215,6 +217,7 @@ pub fn run<H: Host>(alloc: Global, words: &[&str], host: &mut H) -> u8
     // What was asked for, and what stands after each status but 0, 2 and 6.
     ensures asked { H.tells_image → H.tells_said → H.tells_input → (work : Work) → IsStart (H.now host.old).image work
         → Asked (AsksSettled IMAGE_BOUND work (H.now host.old).left (length (H.now host.old).said)) (H.now host.old).asked (H.now host.new).asked }
+    ensures asks_rise { H.tells_said → AskedRising 0 (suc (H.now host.new).taken) (H.now host.old).asked (H.now host.new).asked }
     ensures waiting { H.tells_image → H.tells_said → H.tells_input → IsStill H.clock H.stopped host.old (H.now host.old).image
         → (work : Work) → IsStart (H.now host.old).image work → ((result ≡ INPUT_FAULT) ⊎ (result ≡ INPUT_TOO_LONG))
         → IsWaiting IMAGE_BOUND work (H.now host.old).left (H.now host.old).said (H.now host.new) (Now H.clock H.stopped host.new) }

@@ -9,7 +9,7 @@ ghost use Rattle.abc_session.specs.Session.{Work, after, replies};
 ghost use Rattle.abc_session.specs.Serving.{work_of, works, Holds, IsSessionPoint, NoneFell, OnlyInputFailed, OnlyStoreFailed, OnlySinkFailed};
 ghost use Rattle.abc_outside.specs.Session.{IsBetween, IsBroken, IsCutShort};
 ghost use Rattle.abc_outside.specs.Stop.{Now};
-ghost use Rattle.abc_session.specs.Asking.{Asked};
+ghost use Rattle.abc_session.specs.Asking.{Asked, AskedRising, next_ask};
 ghost use Rattle.abc_session.specs.Reading.{pending_of, WantsMore, AsksMore};
 ghost use Rattle.abc_session.specs.Serving.{OpensTo};
 ghost use Rattle.abc_session.specs.Settled.{AsksSettled, IsWaiting, IsBeforeLine};
@@ -111,6 +111,7 @@ fn turn<H: Host>(
         → IsBeforeLine store.old.journal.bounds.image start input said H.tells_said served.new (work_of store.new) reader.new (H.now host.new) }
     ensures asked { H.tells_said → H.tells_input
         → Asked (AsksMore (pending_of reader.old) (H.now host.old).left reader.old.taken (length (H.now host.old).said)) (H.now host.old).asked (H.now host.new).asked }
+    ensures asks_rise { H.tells_said → AskedRising (next_ask reader.old.taken reader.old.ended) (next_ask reader.new.taken reader.new.ended) (H.now host.old).asked (H.now host.new).asked }
     ensures stays_ended { reader.old.ended ≡ true → reader.new.ended ≡ true }
     ensures ended_asks { reader.old.ended ≡ true → (H.now host.new).asked ≡ (H.now host.old).asked }
     ensures ended_ends { reader.old.ended ≡ true → (IsErrOf result SessionStop.Input ⊎ IsErrOf result SessionStop.Long) → ⊥ }
@@ -188,6 +189,7 @@ pub(crate) fn serve_all<H: Host>(
     // What was asked for, and what stands where the session stops.
     ensures asked { H.tells_said → H.tells_input → Asked (AsksSettled store.old.journal.bounds.image (work_of store.old) (H.now host.old).left (length (H.now host.old).said))
         (H.now host.old).asked (H.now host.new).asked }
+    ensures asks_rise { H.tells_said → AskedRising 0 (suc (H.now host.new).taken) (H.now host.old).asked (H.now host.new).asked }
     ensures waiting { H.tells_image → H.tells_said → H.tells_input → IsQuiet H.clock H.stopped host.old (H.now host.old).image
         → (IsErrOf result SessionStop.Input ⊎ IsErrOf result SessionStop.Long)
         → IsWaiting store.old.journal.bounds.image (work_of store.old) (H.now host.old).left (H.now host.old).said (H.now host.new) (Now H.clock H.stopped host.new) }

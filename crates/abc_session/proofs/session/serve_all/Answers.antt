@@ -10,6 +10,8 @@ use Rattle.abc_session.specs.Reading.{lines_left}
 use Rattle.abc_session.specs.Session.{replies}
 use Rattle.abc_session.specs.Serving.{works, OpensTo}
 use Rattle.abc_session.specs.Settled.{IsBeforeLine}
+use Rattle.abc_session.specs.Asking.{next_ask}
+use Rattle.abc_session.proofs.Asks.{rising_then, rising_ends}
 use Rattle.abc_session.proofs.Places.{turn_asks, waits, not_true}
 use Rattle.abc_session.proofs.Broken.{told_served, idle_between}
 use Rattle.abc_session.proofs.session.serve_all.Goals as goal
@@ -35,6 +37,8 @@ items-preserved g c =
       asked = λ told_said told.
           turn_asks c.args.store.now.journal.bounds.image (work_of c.args.store.now) (g.H.Host.now c.args.host.now).left (g.H.Host.now c.args.host.now).said g.H.Host.tells_said c.items.served (work_of c.items.store) c.items.reader (g.H.Host.now c.items.host)
           (g.H.Host.now c.args.host.now).asked (g.H.Host.now c.items.host).asked (g.H.Host.now c.turn.new.host).asked told_said (i.before told) c.turn.ensures.ended_asks (c.turn.ensures.asked told_said told) (i.asked told_said told);
+      asks_rise = λ told. rising_then 0 (next_ask c.items.reader.taken c.items.reader.ended) (next_ask c.turn.new.reader.taken c.turn.new.reader.ended) (g.H.Host.now c.args.host.now).asked (g.H.Host.now c.items.host).asked
+          (g.H.Host.now c.turn.new.host).asked (i.asks_rise told) (c.turn.ensures.asks_rise told);
       stops = λ told told_said told_input quiet. then_stops g.H.Host.clock g.H.Host.stopped c.args.host.now c.items.host c.turn.new.host _ _ _ _ _ _ _ _ _ _ (ap (λ (b : Bounds). b.image) i.bounds) (i.done told_input) told_said (i.stops told told_said told_input quiet) (c.turn.ensures.stops told told_said told_input (i.quiet told quiet));
       quiet = λ told quiet. c.in_ok-turn.ensures.quiet told (i.quiet told quiet);
       chosen = search rules;
@@ -130,3 +134,15 @@ returns-in_err-turn-clause-cut_short g c told told_said told_input quiet stopped
     (told_served _ _ _ _ g.H.Host.tells_said first.said mid.said told_said (i.done told_input))
     (subst (λ (b : Bounds). IsCutShort OpensTo (works b.image (suc c.items.served) (work_of c.items.store) left) (replies b.image (suc c.items.served) (work_of c.items.store) left) mid.said (g.H.Host.now c.turn.new.host).said
     (g.H.Host.stopped c.turn.new.host (g.H.Host.clock c.turn.new.host))) i.bounds (c.turn.ensures.cut_short told told_said told_input (i.quiet told quiet) (search rules)))
+
+pub returns-clause-asks_rise : goal.returns-clause-asks_rise
+returns-clause-asks_rise g c told =
+    rising_ends 0 c.turn.new.reader.taken (g.H.Host.now c.turn.new.host).taken c.turn.new.reader.ended (g.H.Host.now c.args.host.now).asked (g.H.Host.now c.turn.new.host).asked c.turn.ensures.counts
+    (rising_then 0 (next_ask c.items.reader.taken c.items.reader.ended) (next_ask c.turn.new.reader.taken c.turn.new.reader.ended) (g.H.Host.now c.args.host.now).asked (g.H.Host.now c.items.host).asked
+    (g.H.Host.now c.turn.new.host).asked (c.items.invariant.asks_rise told) (c.turn.ensures.asks_rise told))
+
+pub returns-in_err-turn-clause-asks_rise : goal.returns-in_err-turn-clause-asks_rise
+returns-in_err-turn-clause-asks_rise g c told =
+    rising_ends 0 c.turn.new.reader.taken (g.H.Host.now c.turn.new.host).taken c.turn.new.reader.ended (g.H.Host.now c.args.host.now).asked (g.H.Host.now c.turn.new.host).asked c.turn.ensures.counts
+    (rising_then 0 (next_ask c.items.reader.taken c.items.reader.ended) (next_ask c.turn.new.reader.taken c.turn.new.reader.ended) (g.H.Host.now c.args.host.now).asked (g.H.Host.now c.items.host).asked
+    (g.H.Host.now c.turn.new.host).asked (c.items.invariant.asks_rise told) (c.turn.ensures.asks_rise told))

@@ -6,7 +6,7 @@ use Rattle.abc_session.specs.Lines.{items_of, lines_of}
 use Rattle.abc_session.specs.Reading.{lines_left, used_of}
 use Rattle.abc_session.specs.Session.{replies}
 use Rattle.abc_session.specs.Serving.{work_of, works, Holds, IsSessionPoint, NoneFell}
-use Rattle.abc_session.specs.Asking.{Asked}
+use Rattle.abc_session.specs.Asking.{Asked, AskedRising, next_ask}
 use Rattle.abc_session.specs.Settled.{AsksSettled, IsBeforeLine}
 use Rattle.abc_session.proofs.session.serve_all.Given as goal
 
@@ -30,6 +30,7 @@ invariant-items g l =
       done : g.H.Host.tells_input → HasServed (works limit 1 work items) (replies limit 1 work items) (works limit (suc l.served) (work_of l.store) left) (replies limit (suc l.served) (work_of l.store) left) g.H.Host.tells_said first.said now.said;
       before : g.H.Host.tells_input → l.reader.ended ≡ false → IsBeforeLine limit work first.left first.said g.H.Host.tells_said l.served (work_of l.store) l.reader now;
       asked : g.H.Host.tells_said → g.H.Host.tells_input → Asked (AsksSettled limit work first.left (length first.said)) first.asked now.asked;
+      asks_rise : g.H.Host.tells_said → AskedRising 0 (next_ask l.reader.taken l.reader.ended) first.asked now.asked;
       stops : g.H.Host.tells_image → g.H.Host.tells_said → g.H.Host.tells_input → IsQuiet g.H.Host.clock g.H.Host.stopped l.initial.host first.image
           → Leaves g.H.Host.clock g.H.Host.stopped l.initial.host l.host (IsSessionPoint limit 1 work items first.said);
       quiet : g.H.Host.tells_image → IsQuiet g.H.Host.clock g.H.Host.stopped l.initial.host first.image → IsQuiet g.H.Host.clock g.H.Host.stopped l.host now.image;

@@ -1,4 +1,4 @@
-use Rattle.std.proofs.Common.{rules, ◌≡◌, ◌∙◌, ◌∷◌, ◌++◌, ◌+◌, suc, List, ℕ, false, sym, ap, subst, arith, inl, inr}
+use Rattle.std.proofs.Common.{rules, ◌≡◌, ◌∙◌, [], ◌∷◌, ◌++◌, ◌+◌, suc, List, ℕ, false, refl, sym, ap, subst, arith, inl, inr}
 use Rattle.abc_outside.specs.Stop.{IsQuiet, Extends}
 use Rattle.abc_session.specs.Lines.{is_blank, items_of}
 use Rattle.abc_session.specs.Reading.{shown, lines_left}
@@ -162,3 +162,9 @@ returns-clause-cut_short g c told told_said told_input quiet stops =
     (lines_left c.args.reader.now (g.H.Host.now c.args.host.now).left) later (g.H.Host.now c.args.host.now).said (g.H.Host.now c.next.new.host).said new.said
     split some number c.next.ensures.rest.said part.0 part.1 part.2 (work_of c.serve_item.new.store) (c.serve_item.ensures.work (inr sink))
     (quiet_opens g.H.Host.clock g.H.Host.stopped c.serve_item.new.host new.image (work_of c.serve_item.new.store) (c.serve_item.ensures.holds told (inr sink)) (c.serve_item.ensures.quiet told quiet_mid (inr sink)))
+
+pub returns-in-Ok-None-clause-goes_on : goal.returns-in-Ok-None-clause-goes_on
+returns-in-Ok-None-clause-goes_on g c told =
+    let none : lines_left c.args.reader.now (g.H.Host.now c.args.host.now).left ≡ [] = (rw c.in-Ok-None.field-0-is at c.in-Ok-None.ensures.line) told in
+    same_goes_on c.args.store.now.journal.bounds.image (suc c.args.served.now) (work_of c.args.store.now) (work_of c.args.store.now) (items_of (lines_left c.args.reader.now (g.H.Host.now c.args.host.now).left)) []
+    g.H.Host.tells_said _ _ (sym (ap items_of none)) refl c.next.ensures.rest.said

@@ -1,5 +1,5 @@
 use Rattle.std.proofs.Common.{rules, ◌≡◌, ◌<◌, [], length, Ok, Err, sym, ◌∙◌, ap, subst, arith}
-use Rattle.abc_outside.proofs.Leaves.{one_call}
+use Rattle.abc_outside.proofs.Leaves.{one_call, run_after}
 use Rattle.abc_journal.specs.Image.{opened, read_image}
 use Rattle.abc_journal.specs.Journal.{HasLayout}
 use Rattle.abc_journal.proofs.Image.{settled_short, settled_long}
@@ -81,3 +81,15 @@ returns-clause-image g c told =
     let image = (g.H.Host.now c.args.host.now).image in
     let size = c.in_ok-size.ensures.size told in
     c.read_image.ensures.image ∙ c.size.ensures.image ∙ sym (settled_long image (omega (arith, size)))
+
+pub returns-in_err-settle-clause-fresh : goal.returns-in_err-settle-clause-fresh
+returns-in_err-settle-clause-fresh g c told is =
+    run_after g.H.Host.clock g.H.Host.stopped c.args.host.now c.size.new.self c.settle.new.host _ _
+    (one_call g.H.Host.clock g.H.Host.stopped c.args.host.now c.size.new.self _ c.size.ensures.time c.size.ensures.stop)
+    (c.settle.ensures.fresh told (c.size.ensures.image ∙ is)) c.size.ensures.stop
+
+pub returns-then-size-clause-fresh : goal.returns-then-size-clause-fresh
+returns-then-size-clause-fresh g c told is =
+    run_after g.H.Host.clock g.H.Host.stopped c.args.host.now c.size.new.self c.settle.new.host _ _
+    (one_call g.H.Host.clock g.H.Host.stopped c.args.host.now c.size.new.self _ c.size.ensures.time c.size.ensures.stop)
+    (c.settle.ensures.fresh told (c.size.ensures.image ∙ is)) c.size.ensures.stop

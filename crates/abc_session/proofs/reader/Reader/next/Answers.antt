@@ -3,7 +3,8 @@ use Rattle.abc_outside.proofs.Leaves.{run_after}
 use Rattle.abc_session.specs.Lines.{lines_by}
 use Rattle.abc_session.specs.Reading.{shown, pending_of, TookPart}
 use Rattle.abc_session.proofs.Started.{found, uses, if_found, went_on, read_on, wants, ends_empty, ends_line, last_found, none_left}
-use Rattle.abc_session.proofs.Asks.{asks_more}
+use Rattle.abc_session.specs.Asking.{next_ask}
+use Rattle.abc_session.proofs.Asks.{asks_more, rising_read}
 use Rattle.abc_session.proofs.reader.Reader.next.Goals as goal
 
 pub returns-then-branch-clause-line : goal.returns-then-branch-clause-line
@@ -56,6 +57,9 @@ pieces-preserved g c =
           let w = wants _ _ _ _ _ _ _ (s told) refl in
           asks_more (pending_of c.args.self.now) (g.H.Host.now c.args.host.now).left c.args.self.now.taken (length (g.H.Host.now c.args.host.now).said) c.take_part.new.self.taken (length (g.H.Host.now c.pieces.host).said)
           (g.H.Host.now c.args.host.now).asked (g.H.Host.now c.pieces.host).asked (g.H.Host.now c.fill.new.host).asked (w.0, c.in_ok-take_part.ensures.taken ∙ w.1, w.2, w.3) (ap length i.keeps.said) (i.asked told_said told) (c.fill.ensures.asked told_said);
+      asks_rise = λ told. rising_read (next_ask c.args.self.now.taken c.args.self.now.ended) c.pieces.self.taken c.take_part.new.self.taken _ c.pieces.self.ended c.take_part.new.self.ended
+          (g.H.Host.now c.args.host.now).asked (g.H.Host.now c.pieces.host).asked (g.H.Host.now c.fill.new.host).asked c.in_ok-take_part.ensures.taken c.in_ok-take_part.ensures.ended (search rules)
+          (i.asks_rise told) (c.fill.ensures.asks_rise told);
       ended_asks = λ is.
           let went : c.pieces.self.ended ≡ true = (i.ended_asks is).0 in
           let not : c.take_part.new.self.ended ≡ false = search rules in
@@ -96,3 +100,9 @@ pub returns-then-self-clause-uses : goal.returns-then-self-clause-uses
 returns-then-self-clause-uses g c told =
     let is : c.take_part.new.self.ended ≡ true = search rules in
     if_found c.if_any.result _ (λ line not. absurd (cc (is, not)))
+
+pub returns-in_err-fill-clause-asks_rise : goal.returns-in_err-fill-clause-asks_rise
+returns-in_err-fill-clause-asks_rise g c told =
+    rising_read (next_ask c.args.self.now.taken c.args.self.now.ended) c.pieces.self.taken c.take_part.new.self.taken _ c.pieces.self.ended c.take_part.new.self.ended
+    (g.H.Host.now c.args.host.now).asked (g.H.Host.now c.pieces.host).asked (g.H.Host.now c.fill.new.host).asked c.in_ok-take_part.ensures.taken c.in_ok-take_part.ensures.ended (search rules)
+    (c.pieces.invariant.asks_rise told) (c.fill.ensures.asks_rise told)

@@ -3,7 +3,7 @@ use Rattle.abc_outside.specs.Outside.{KeepsButInput}
 use Rattle.abc_outside.specs.Stop.{Leaves}
 use Rattle.abc_num.specs.declared.limits.TheConstants.{MOST_LINE_BYTES}
 use Rattle.abc_session.specs.Reading.{shown, pending_of, used_of, AsksMore}
-use Rattle.abc_session.specs.Asking.{Asked}
+use Rattle.abc_session.specs.Asking.{Asked, AskedRising, next_ask}
 use Rattle.abc_session.proofs.Started.{IsStarted}
 use Rattle.abc_session.proofs.reader.Reader.next.Given as goal
 
@@ -19,6 +19,7 @@ invariant-pieces g l = record {
   asked : g.H.Host.tells_said → g.H.Host.tells_input
       → Asked (AsksMore (pending_of l.initial.self) (g.H.Host.now l.initial.host).left l.initial.self.taken (length (g.H.Host.now l.initial.host).said))
       (g.H.Host.now l.initial.host).asked (g.H.Host.now l.host).asked;
+  asks_rise : g.H.Host.tells_said → AskedRising (next_ask l.initial.self.taken l.initial.self.ended) (next_ask l.self.taken l.self.ended) (g.H.Host.now l.initial.host).asked (g.H.Host.now l.host).asked;
   ended_asks : l.initial.self.ended ≡ true → (l.self.ended ≡ true) × ((g.H.Host.now l.host).asked ≡ (g.H.Host.now l.initial.host).asked);
   keeps : KeepsButInput (g.H.Host.now l.initial.host) (g.H.Host.now l.host);
   faultless : (g.H.Host.now l.host).input_faults ≡ (g.H.Host.now l.initial.host).input_faults;
