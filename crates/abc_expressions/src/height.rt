@@ -26,7 +26,7 @@ pub(crate) fn is_higher(tree: &Expr, most: u32) -> bool
     }
 }
 
-/// Whether the expression is at least so high.
+/// Whether the expression is at least so high, in levels. It takes no memory.
 #[cycle(height)]
 pub fn reaches(tree: &Expr, least: u32) -> bool
     ensures { IsTrue result ↔ (least < height tree.now + 1) }
@@ -34,7 +34,7 @@ pub fn reaches(tree: &Expr, least: u32) -> bool
     least == 0 || is_higher(tree, least - 1)
 }
 
-/// Whether one of the parts is at least so high.
+/// Whether one of the parts is at least so high, in levels. It takes no memory.
 #[cycle(height)]
 pub fn a_part_reaches(parts: &[Expr], least: u32) -> bool
     ensures { IsTrue result ↔ (least < above (map height parts.now)) }

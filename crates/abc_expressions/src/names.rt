@@ -21,6 +21,7 @@ fn given(one: Option<Op>, two: Option<Op>) -> Kind
     }
 }
 
+/// What a name is: its number where it is own, else its predefined operations, if it has any. It takes no memory.
 #[tactic(auto, unfolding(crate::specs::Operators::kind_of))]
 pub fn kind_of(own: &Names, name: &Text) -> Kind
     ensures { result ≡ kind_of own.now name.now }
@@ -225,7 +226,7 @@ pub(crate) fn goes_on(reach: &Reach, least: u8, level: u8) -> bool
     }
 }
 
-/// The sign that the token is, if it is one.
+/// The sign that the token is, and `Other` where it is none.
 pub fn sign_of(token: &Lexeme) -> Sign
     ensures { result ≡ sign_of token.now }
 {

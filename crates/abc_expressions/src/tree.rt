@@ -17,7 +17,7 @@ use abc_num::{BadNumber, Items, Names, Stack, Text, read_literal};
 use abc_tree::{Expr, Piece, Pieces};
 use std::alloc::Global;
 
-/// A tree, and the tokens behind it.
+/// A tree, and the tokens behind it, which it doesn't take up.
 #[derive(Drop)]
 pub struct ExpressionFront<'a> {
     pub tree: Expr,
@@ -178,8 +178,8 @@ fn advance(
     }
 }
 
-/// The tree in front of the tokens, of this level at least, where so many brackets may open: one expression, or several with
-/// commas between.
+/// The tree in front of the tokens, where so many brackets may open: an expression of this level at least (1 to 10, loosest
+/// first), or, by the group, several with commas between. BadCommand exactly where there is none; never TooMany.
 #[cycle(reading)]
 pub fn tree_in_front<'a>(
     alloc: Global,
