@@ -1,5 +1,6 @@
 -- An address is an expression that has the form of one.
 use Rattle.std.proofs.Common.{◌≡◌, ◌≤◌, ℕ, Bool, true, false, ◌&&◌, List, [], ◌∷◌, map, refl, ap, sym, ◌∙◌, arith, rules}
+use Rattle.std.proofs.lemmas.Bool.{and_parts}
 use Rattle.abc_num.specs.Number.{Fraction}
 use Rattle.abc_tree.specs.Regular.{is_address, every}
 use Rattle.abc_tree.specs.declared.formulas.Expr.{Expr, the_lemmas}
@@ -17,7 +18,6 @@ use Rattle.abc_expressions.specs.Grammar as c
 use Rattle.abc_expressions.specs.Grammar.{compound, own_name, Spells, Parts, Spelled}
 use Rattle.abc_expressions.specs.Addresses as a
 use Rattle.abc_expressions.specs.Addresses.{SpellsAddress, Addresses, SpelledAddress}
-use Rattle.abc_expressions.proofs.Truth.{both}
 
 -- ---- the form of an address
 
@@ -97,9 +97,9 @@ mutual
   address_of (c.table {pairs = pairs} h q) is = false_true (is_address (e.Table pairs)) (no_table pairs) is
 
   addresses_of : {own : List (List ℕ)} {d : ℕ} {parts : List Expr} {ts rest : List Lexeme} → Parts own d parts ts rest → every (map is_address parts) ≡ true → Addresses own d parts ts rest
-  addresses_of (c.one {a = x} p) is = a.one (address_of p (both (is_address x) true is).0)
+  addresses_of (c.one {a = x} p) is = a.one (address_of p (and_parts (is_address x) true is).0)
   addresses_of (c.more {a = x} {parts = parts} p q) is =
-      let h = both (is_address x) (every (map is_address parts)) is in a.more (address_of p h.0) (addresses_of q h.1)
+      let h = and_parts (is_address x) (every (map is_address parts)) is in a.more (address_of p h.0) (addresses_of q h.1)
 
 -- ---- an address is an expression of that form
 

@@ -1,5 +1,6 @@
 -- The names of an address are found with a count of brackets.
 use Rattle.std.proofs.Common.{◌≡◌, ◌≤◌, ℕ, zero, suc, Bool, true, false, not, ◌||◌, inl, inr, List, [], ◌∷◌, ◌++◌, drop, length, refl, ap, sym, ◌∙◌, arith, length-append, length-drop}
+use Rattle.std.proofs.Math.Bool.{or-true}
 use Rattle.std.specs.Prelude.{◌==◌, if◌then◌else◌}
 use Rattle.std.proofs.lemmas.Bool.{ne_eqb}
 use Rattle.std.proofs.lemmas.List.{drop_all}
@@ -18,7 +19,6 @@ use Rattle.abc_expressions.specs.Lexemes.{ArePart}
 use Rattle.abc_expressions.specs.Addresses.{opened_by, is_bracket, in_key, names_outside, each_once, names_of_address}
 use Rattle.abc_expressions.specs.AddressSteps.{depth_behind, depth_by, names_behind}
 use Rattle.abc_tokens.proofs.TextLaws.{closes_ends}
-use Rattle.abc_expressions.proofs.Truth.{or_true}
 
 -- ---- the count that stands for the open brackets
 
@@ -42,7 +42,7 @@ key_by : (n : ℕ) (b : Sign) (x : Bool) → (is_bracket b ≡ x) → (is_bracke
 unfolding deeper
 key_by zero b true e = ap (λ c. c || false) e ∙ sym (ap (λ c. not ((if c then 1 else 0) == 0)) e)
 key_by zero b false e = ap (λ c. c || false) e ∙ sym (ap (λ c. not ((if c then 1 else 0) == 0)) e)
-key_by (suc n) b x e = ap (λ c. is_bracket b || not c) (suc_test n) ∙ or_true (is_bracket b) ∙ sym (ap not (suc_test (suc n)))
+key_by (suc n) b x e = ap (λ c. is_bracket b || not c) (suc_test n) ∙ or-true (is_bracket b) ∙ sym (ap not (suc_test (suc n)))
 
 key_is : (among : List Sign) → in_key among ≡ not (depth_of among == 0)
 key_is [] = refl

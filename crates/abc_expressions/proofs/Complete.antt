@@ -33,9 +33,9 @@ use Rattle.abc_expressions.specs.Lexemes.{seen}
 use Rattle.abc_expressions.specs.declared.lexemes.Lexeme.TheVariants as t
 use Rattle.abc_expressions.specs.Operators.{kind_of, begins, lead_by, sign_lead, lead, infix_of, joined1, joined2}
 use Rattle.abc_expressions.specs.Grammar.{compound, paired, Spells, number, text, name, call, before, between, select, round, empty, list, table, Parts, one, more, Filler, single, range, Fills, one_fill, more_fills, Entry, entry, Pairs, one_pair, more_pairs, Pieces, none, characters, conversion, Spelled}
-use Rattle.abc_expressions.specs.Machine.{Found, Next, Leaves, converter, reader, role_of, sign_operand, leaf_operand, operand, wanted, reach_by, reach, within, taken, sign_of, settled, wholly, settles, popped, in_display, whole_found, finished, run, tree_of, alone, lexed, pieces_of, front_piece, converted_piece, text_of, text_by, number_of, read_tokens}
-use Rattle.abc_expressions.proofs.ReadsTokens.{ReadsTokens}
-use Rattle.abc_expressions.proofs.Levels.{Shaped, HasShape, shaped, grasp, Follows, follows_more, follows_right, same_level, stop_between, stop_before}
+use Rattle.abc_expressions.specs.Machine.{Found, Next, Leaves, converter, reader, role_of, sign_operand, leaf_operand, operand, wanted, reach, within, taken, sign_of, settled, wholly, settles, popped, in_display, whole_found, finished, run, tree_of, alone, lexed, pieces_of, front_piece, converted_piece, text_of, text_by, number_of, read_tokens}
+use Rattle.abc_tokens.proofs.Faults.{OneReading}
+use Rattle.abc_expressions.proofs.Levels.{Shaped, HasShape, shaped, reach_joins, grasp, Follows, follows_more, follows_right, same_level, stop_between, stop_before}
 use Rattle.abc_expressions.proofs.NumberValues.{value_found as number_found}
 use Rattle.abc_expressions.proofs.Leaves.{lexed_found}
 use Rattle.abc_expressions.proofs.TextParts.{split_found}
@@ -64,10 +64,6 @@ operand_leads own leaf (t.Number bytes) ts join h = cc
 operand_leads own leaf (t.Keyword x) ts join h = cc
 operand_leads own leaf (t.Text bytes) ts join h = cc
 operand_leads own leaf t.Other ts join h = cc
-
-reach_joins : (own : List (List ℕ)) (token : Lexeme) (i : Infix) → infix_of own token ≡ Some i → reach own token ≡ r.Joins i
-unfolding reach
-reach_joins own token i h = ap (λ x. reach_by x token) h
 
 pub shape_of : (own : List (List ℕ)) (token : Lexeme) (i : Infix) → infix_of own token ≡ Some i → HasShape i
 shape_of own token i h = subst Shaped h (shaped own token)
@@ -228,7 +224,7 @@ unfolding converter
 in_conversion own d zero bytes ts a deep is h = absurd (omega arith)
 in_conversion own d (suc f) bytes ts a deep is h = ap (read_tokens (converter own f) own d) is ∙ ap alone (h f (omega arith))
 
-module _ (law : ReadsTokens) where
+module _ (law : OneReading) where
   mutual
     unfolding run popped finished reach
 
@@ -361,7 +357,7 @@ ended_whole : (leaves : Leaves) (own : List (List ℕ)) (d : ℕ) (rest : List L
 ended_whole leaves own d [] parts = refl
 ended_whole leaves own d (token ∷ ts) parts = refl
 
-pub read_as : ReadsTokens → (own : List (List ℕ)) (d : ℕ) (a : Expr) (ts rest : List Lexeme) → Spelled own d a ts rest → Stops own rest → (c : ℕ) → d ≤ c → tree_of (grp.Whole []) (reader own c) own d ts ≡ Some (a, rest)
+pub read_as : OneReading → (own : List (List ℕ)) (d : ℕ) (a : Expr) (ts rest : List Lexeme) → Spelled own d a ts rest → Stops own rest → (c : ℕ) → d ≤ c → tree_of (grp.Whole []) (reader own c) own d ts ≡ Some (a, rest)
 read_as law own d a ts rest h end c deep =
     complete_parts law h.1 c deep grp.Whole (λ parts. done.Stops (compound parts)) (λ parts. Some (compound parts)) (λ xs x. refl) 1 [] [] (whole_ends own rest end)
     ∙ ended_whole (reader own c) own d rest h.0 ∙ ap (λ x. Some (x, rest)) (sym h.2)

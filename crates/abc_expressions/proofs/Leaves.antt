@@ -1,7 +1,9 @@
 -- Numbers, texts and the tokens of conversions are read as they are defined.
 use Rattle.std.proofs.Common.{◌≡◌, ℕ, zero, suc, Bool, true, false, ◌&&◌, List, [], ◌∷◌, length, map, All, Option, Some, None, refl, ap, sym, ◌∙◌, arith}
+use Rattle.std.proofs.lemmas.Bool.{and_parts}
 use Rattle.std.specs.Prelude.{if◌then◌else◌}
 use Rattle.std.specs.List.{list_all}
+use Rattle.std.proofs.lemmas.Option.{same_Some}
 use Rattle.abc_num.specs.Number.{Fraction}
 use Rattle.abc_tokens.specs.declared.kinds.Token.{Token}
 use Rattle.abc_tokens.specs.Scanned as scan
@@ -16,10 +18,8 @@ use Rattle.abc_tree.specs.declared.formulas.Expr.TheVariants as e
 use Rattle.abc_expressions.specs.Grammar.{IsValueOf}
 use Rattle.abc_expressions.specs.Machine.{bare_by, has_bare, lexed, lexed_by, is_some, is_sound, number_of}
 use Rattle.abc_expressions.specs.Texts.{is_bare, AreBare}
-use Rattle.abc_expressions.proofs.ReadsTokens.{ReadsTokens}
+use Rattle.abc_tokens.proofs.Faults.{OneReading}
 use Rattle.abc_expressions.proofs.NumberValues.{value_found, value_told}
-use Rattle.abc_tokens.proofs.TextLaws.{some_is}
-use Rattle.abc_expressions.proofs.Truth.{both}
 
 sound_found : (n : List ℕ) → IsSound n → is_sound n ≡ true
 sound_found n h = ap is_some (value_found n h.0 h.1)
@@ -38,9 +38,9 @@ all_cons n ns p q (suc k) d l = q k d (omega arith)
 
 all_told : (ns : List (List ℕ)) → list_all is_sound ns ≡ true → All IsSound ns
 all_told [] h = λ k d l. absurd (omega arith)
-all_told (n ∷ ns) h = let p = both (is_sound n) (list_all is_sound ns) h in all_cons n ns (sound_by n (number_at n) refl p.0) (all_told ns p.1)
+all_told (n ∷ ns) h = let p = and_parts (is_sound n) (list_all is_sound ns) h in all_cons n ns (sound_by n (number_at n) refl p.0) (all_told ns p.1)
 
-pub lexed_found : ReadsTokens → (line : List ℕ) (ts : List Token) → AreTokens line ts → lexed line ≡ Some (map (seen line) ts)
+pub lexed_found : OneReading → (line : List ℕ) (ts : List Token) → AreTokens line ts → lexed line ≡ Some (map (seen line) ts)
 unfolding lexed
 lexed_found law line ts h =
     ap (λ c. lexed_by line c (scan.scanned false (length line) line 0)) h.characters
@@ -51,16 +51,16 @@ Told : List ℕ → List Lexeme → Type 0
 Told line ls = (ts : List Token) × AreTokens line ts × (ls ≡ map (seen line) ts)
 
 -- a line whose tokens are computed has them
-are_tokens : ReadsTokens → (line : List ℕ) (ts : List Token) (ns : List (List ℕ)) → has_characters line ≡ true → scan.scanned false (length line) line 0 ≡ Some (ts, ns)
+are_tokens : OneReading → (line : List ℕ) (ts : List Token) (ns : List (List ℕ)) → has_characters line ≡ true → scan.scanned false (length line) line 0 ≡ Some (ts, ns)
     → list_all is_sound ns ≡ true → AreTokens line ts
 are_tokens law line ts ns ec ex e =
     record {
       characters = ec;
       found = (ns, (law line ts ns).1 ex, all_told ns e);
-      only = λ us ms d. ap (λ x. x.0) (some_is (sym ((law line us ms).0 d) ∙ ex));
+      only = λ us ms d. ap (λ x. x.0) (same_Some _ _ (sym ((law line us ms).0 d) ∙ ex));
     }
 
-told_by : ReadsTokens → (line : List ℕ) (ls : List Lexeme) (c : Bool) (x : scan.Found) → has_characters line ≡ c → scan.scanned false (length line) line 0 ≡ x → lexed_by line c x ≡ Some ls → Told line ls
+told_by : OneReading → (line : List ℕ) (ls : List Lexeme) (c : Bool) (x : scan.Found) → has_characters line ≡ c → scan.scanned false (length line) line 0 ≡ x → lexed_by line c x ≡ Some ls → Told line ls
 unfolding Told
 told_by law line ls false x ec ex h = cc
 told_by law line ls true None ec ex h = cc
@@ -68,36 +68,36 @@ told_by law line ls true (Some (ts, ns)) ec ex h = sound (list_all is_sound ns) 
   where
     sound : (s : Bool) → list_all is_sound ns ≡ s → (if s then Some (map (seen line) ts) else None) ≡ Some ls → (ts : List Token) × AreTokens line ts × (ls ≡ map (seen line) ts)
     sound false e h = cc
-    sound true e h = (ts, are_tokens law line ts ns ec ex e, sym (some_is h))
+    sound true e h = (ts, are_tokens law line ts ns ec ex e, sym (same_Some _ _ h))
 
-pub lexed_told : ReadsTokens → (line : List ℕ) (ls : List Lexeme) → lexed line ≡ Some ls → (ts : List Token) × AreTokens line ts × (ls ≡ map (seen line) ts)
+pub lexed_told : OneReading → (line : List ℕ) (ls : List Lexeme) → lexed line ≡ Some ls → (ts : List Token) × AreTokens line ts × (ls ≡ map (seen line) ts)
 unfolding lexed Told
 lexed_told law line ls h = told_by law line ls (has_characters line) (scan.scanned false (length line) line 0) refl refl h
 
 -- ---- tokens without a comment
 
-pub bare_of : ReadsTokens → (line : List ℕ) (ts : List Token) → AreTokens line ts → has_bare line ≡ is_bare line ts
+pub bare_of : OneReading → (line : List ℕ) (ts : List Token) → AreTokens line ts → has_bare line ≡ is_bare line ts
 unfolding has_bare
 bare_of law line ts h =
     ap (λ c. bare_by line c (scan.scanned false (length line) line 0)) h.characters
     ∙ ap (bare_by line true) ((law line ts h.found.0).0 h.found.1)
     ∙ ap (λ c. c && is_bare line ts) (all_found h.found.0 h.found.2)
 
-pub bare_found : ReadsTokens → (line : List ℕ) (ts : List Token) → AreBare line ts → has_bare line ≡ true
+pub bare_found : OneReading → (line : List ℕ) (ts : List Token) → AreBare line ts → has_bare line ≡ true
 bare_found law line ts h = bare_of law line ts h.0 ∙ h.1
 
 Bare : List ℕ → Type 0
 Bare line = (ts : List Token) × AreBare line ts
 
-bare_told_by : ReadsTokens → (line : List ℕ) (c : Bool) (x : scan.Found) → has_characters line ≡ c → scan.scanned false (length line) line 0 ≡ x → bare_by line c x ≡ true → Bare line
+bare_told_by : OneReading → (line : List ℕ) (c : Bool) (x : scan.Found) → has_characters line ≡ c → scan.scanned false (length line) line 0 ≡ x → bare_by line c x ≡ true → Bare line
 unfolding Bare
 bare_told_by law line false x ec ex h = cc
 bare_told_by law line true None ec ex h = cc
 bare_told_by law line true (Some (ts, ns)) ec ex h =
-    let p = both (list_all is_sound ns) (is_bare line ts) h in
+    let p = and_parts (list_all is_sound ns) (is_bare line ts) h in
     (ts, (are_tokens law line ts ns ec ex p.0, p.1))
 
-pub bare_told : ReadsTokens → (line : List ℕ) → has_bare line ≡ true → (ts : List Token) × AreBare line ts
+pub bare_told : OneReading → (line : List ℕ) → has_bare line ≡ true → (ts : List Token) × AreBare line ts
 unfolding has_bare Bare
 bare_told law line h = bare_told_by law line (has_characters line) (scan.scanned false (length line) line 0) refl refl h
 

@@ -24,7 +24,7 @@ use Rattle.abc_expressions.specs.Machine.{Leaves, reach_by, reach, within, taken
 
 -- the levels of an operator: to the left, or those of a power
 abbrev pub HasShape : Infix → Type 0
-HasShape i = ((i.left ≡ i.gives) × (i.right ≡ suc i.gives) × (i.gives ≤ 9) × (i.gives ≢ 7) × (i.gives ≢ 8)) ⊎ ((i.gives ≡ 8) × (i.left ≡ 9) × (i.right ≡ 7))
+HasShape i = ((i.left ≡ i.gives) × (i.right ≡ suc i.gives) × (i.gives ≤ 9) × (i.gives ≢ 7) × (i.gives ≢ 8) × (1 ≤ i.gives)) ⊎ ((i.gives ≡ 8) × (i.left ≡ 9) × (i.right ≡ 7))
 
 abbrev pub Shaped : Option Infix → Type 0
 Shaped None = Unit {0}
@@ -32,28 +32,28 @@ Shaped (Some i) = HasShape i
 
 shaped_member : (two : Op) (b : Bool) → Shaped (if b then None else Some (leftward 1 (j.Op two)))
 shaped_member two true = tt
-shaped_member two false = inl (refl, refl, omega arith, omega arith, omega arith)
+shaped_member two false = inl (refl, refl, omega arith, omega arith, omega arith, omega arith)
 
 shaped_by : (k : Kind) (x : List ℕ) → Shaped (infix_by k x)
 shaped_by (kind.Own i) x = tt
 shaped_by (kind.Given one None) x = tt
 shaped_by (kind.Given one (Some two)) x = shaped_member two (is_membership two)
-shaped_by kind.Free x = inl (refl, refl, omega arith, omega arith, omega arith)
+shaped_by kind.Free x = inl (refl, refl, omega arith, omega arith, omega arith, omega arith)
 
 shaped_sign : (sign : Sign) → Shaped (sign_infix sign)
-shaped_sign s.LessLess = inl (refl, refl, omega arith, omega arith, omega arith)
-shaped_sign s.MoreLess = inl (refl, refl, omega arith, omega arith, omega arith)
-shaped_sign s.MoreMore = inl (refl, refl, omega arith, omega arith, omega arith)
-shaped_sign s.Caret = inl (refl, refl, omega arith, omega arith, omega arith)
-shaped_sign s.CaretCaret = inl (refl, refl, omega arith, omega arith, omega arith)
-shaped_sign s.Plus = inl (refl, refl, omega arith, omega arith, omega arith)
-shaped_sign s.Minus = inl (refl, refl, omega arith, omega arith, omega arith)
-shaped_sign s.Star = inl (refl, refl, omega arith, omega arith, omega arith)
-shaped_sign s.Slash = inl (refl, refl, omega arith, omega arith, omega arith)
-shaped_sign s.Hash = inl (refl, refl, omega arith, omega arith, omega arith)
+shaped_sign s.LessLess = inl (refl, refl, omega arith, omega arith, omega arith, omega arith)
+shaped_sign s.MoreLess = inl (refl, refl, omega arith, omega arith, omega arith, omega arith)
+shaped_sign s.MoreMore = inl (refl, refl, omega arith, omega arith, omega arith, omega arith)
+shaped_sign s.Caret = inl (refl, refl, omega arith, omega arith, omega arith, omega arith)
+shaped_sign s.CaretCaret = inl (refl, refl, omega arith, omega arith, omega arith, omega arith)
+shaped_sign s.Plus = inl (refl, refl, omega arith, omega arith, omega arith, omega arith)
+shaped_sign s.Minus = inl (refl, refl, omega arith, omega arith, omega arith, omega arith)
+shaped_sign s.Star = inl (refl, refl, omega arith, omega arith, omega arith, omega arith)
+shaped_sign s.Slash = inl (refl, refl, omega arith, omega arith, omega arith, omega arith)
+shaped_sign s.Hash = inl (refl, refl, omega arith, omega arith, omega arith, omega arith)
 shaped_sign s.StarStar = inr (refl, refl, refl)
-shaped_sign s.At = inl (refl, refl, omega arith, omega arith, omega arith)
-shaped_sign s.Bar = inl (refl, refl, omega arith, omega arith, omega arith)
+shaped_sign s.At = inl (refl, refl, omega arith, omega arith, omega arith, omega arith)
+shaped_sign s.Bar = inl (refl, refl, omega arith, omega arith, omega arith, omega arith)
 shaped_sign _ = tt
 
 pub shaped : (own : List (List ℕ)) (token : Lexeme) → Shaped (infix_of own token)
@@ -76,6 +76,10 @@ shaped_reach_by None _ h = tt
 pub shaped_reach : (own : List (List ℕ)) (token : Lexeme) → ShapedReach (reach own token)
 unfolding reach
 shaped_reach own token = shaped_reach_by (infix_of own token) token (shaped own token)
+
+pub reach_joins : (own : List (List ℕ)) (token : Lexeme) (i : Infix) → infix_of own token ≡ Some i → reach own token ≡ r.Joins i
+unfolding reach
+reach_joins own token i h = ap (λ x. reach_by x token) h
 
 -- what a token asks of the operand before it
 abbrev pub grasp : Reach → ℕ

@@ -1,6 +1,6 @@
 pub mod Rows
-pub mod ReadsTokens
-pub mod Truth
+pub mod Ending
+pub mod FrontLaws
 pub mod Levels
 pub mod Leaves
 pub mod Complete
@@ -8,6 +8,7 @@ pub mod Sound
 pub mod ReaderSteps
 pub mod NumberValues
 pub mod TextParts
+pub mod Conversions
 pub mod TokenParts
 pub mod SplitSteps
 pub mod TreeSteps

@@ -37,11 +37,13 @@ use Rattle.abc_expressions.specs.declared.lexemes.Lexeme.{Lexeme}
 use Rattle.abc_expressions.specs.Lexemes.{seen}
 use Rattle.abc_expressions.specs.declared.lexemes.Lexeme.TheVariants as t
 use Rattle.abc_expressions.specs.Operators.{kind_of, begins, lead_by, lead, infix_of, joined1, joined2}
-use Rattle.abc_expressions.specs.Grammar.{compound, paired, Spells, number, text, name, call, before, between, select, round, empty, list, table, Parts, one, more, Filler, single, range, Fills, one_fill, more_fills, Entry, entry, Pairs, one_pair, more_pairs, Pieces, none, characters, conversion, Spelled}
+use Rattle.abc_expressions.specs.Grammar.{compound, paired, Spells, number, text, name, call, before, between, select, round, empty, list, table, Parts, one, more, single, range, Fills, one_fill, more_fills, Entry, entry, Pairs, one_pair, more_pairs, Pieces, none, characters, conversion, Spelled}
+use Rattle.abc_expressions.specs.Fronts.{EndsBefore, NoComma, IsFront, IsWholeFront}
 use Rattle.abc_expressions.specs.Numbers.{number_at}
 use Rattle.abc_expressions.specs.Machine.{Found, Leaves, Converts, converter, reader, leaf, role_of, leaf_operand, operand, opened, displayed, wanted, reach_by, reach, within, taken, sign_of, settled, settles, popped, in_display, at_pair, at_colon, finished, run, tree_of, alone, lexed, split, Splitting, pieces_of, conversion_at, front_piece, converted_piece, text_of, text_by, number_of, read_tokens}
-use Rattle.abc_expressions.proofs.ReadsTokens.{ReadsTokens}
-use Rattle.abc_expressions.proofs.Levels.{HasShape}
+use Rattle.abc_tokens.proofs.Faults.{OneReading}
+use Rattle.abc_expressions.proofs.Levels.{HasShape, shaped_reach}
+use Rattle.abc_expressions.proofs.Ending.{Full, passed, full_at_first, full_between, full_before, ends_before}
 use Rattle.abc_expressions.proofs.Complete.{shape_of}
 use Rattle.abc_expressions.proofs.NumberValues.{value_told as number_told}
 use Rattle.abc_expressions.proofs.Leaves.{lexed_told}
@@ -65,54 +67,26 @@ weaken (empty h) n le = empty (omega arith)
 weaken (list h q) n le = list (omega arith) q
 weaken (table h q) n le = table (omega arith) q
 
--- ---- the parts of a group were read from us on, and what is read from ts on comes behind them
+-- ---- items were read from us on, and what is read from ts on comes behind them
 
-module _ (own : List (List ℕ)) (d : ℕ) where
-  SoFar : List Expr → List Lexeme → List Lexeme → Type 0
-  SoFar parts us ts = (more : List Expr) (rest : List Lexeme) → Parts own d more ts rest → Parts own d (parts ++ more) us rest
+module _ {X : Type 0} (Read : List X → List Lexeme → List Lexeme → Type 0) where
+  SoFar : List X → List Lexeme → List Lexeme → Type 0
+  SoFar xs us ts = (ys : List X) (rest : List Lexeme) → Read ys ts rest → Read (xs ++ ys) us rest
 
   sofar_none : (ts : List Lexeme) → SoFar [] ts ts
   unfolding SoFar
-  sofar_none ts xs rest p = p
+  sofar_none ts ys rest p = p
 
-  sofar_more : (parts : List Expr) (a : Expr) (us vs ts : List Lexeme) → SoFar parts us vs → Spells own d 1 a vs (t.Sign s.Comma ∷ ts) → SoFar (parts ++ a ∷ []) us ts
+  sofar_more : (xs : List X) (x : X) (us vs ts : List Lexeme) → SoFar xs us vs → ((ys : List X) (rest : List Lexeme) → Read ys ts rest → Read (x ∷ ys) vs rest)
+      → SoFar (xs ++ x ∷ []) us ts
   unfolding SoFar
-  sofar_more parts a us vs ts h p xs rest q = subst (λ (x : List Expr). Parts own d x us rest) (sym (append_assoc parts (a ∷ []) xs)) (h (a ∷ xs) rest (more p q))
+  sofar_more xs x us vs ts h onward ys rest p = subst (λ (zs : List X). Read zs us rest) (sym (append_assoc xs (x ∷ []) ys)) (h (x ∷ ys) rest (onward ys rest p))
 
-  sofar_all : (parts : List Expr) (a : Expr) (us vs rest : List Lexeme) → SoFar parts us vs → Spells own d 1 a vs rest → Parts own d (parts ++ a ∷ []) us rest
+  sofar_all : (xs : List X) (x : X) (us vs rest : List Lexeme) → SoFar xs us vs → Read (x ∷ []) vs rest → Read (xs ++ x ∷ []) us rest
   unfolding SoFar
-  sofar_all parts a us vs rest h p = h (a ∷ []) rest (one p)
+  sofar_all xs x us vs rest h p = h (x ∷ []) rest p
 
-  FillsSoFar : List Fill → List Lexeme → List Lexeme → Type 0
-  FillsSoFar fills us ts = (more : List Fill) (rest : List Lexeme) → Fills own d more ts rest → Fills own d (fills ++ more) us rest
-
-  fills_none : (ts : List Lexeme) → FillsSoFar [] ts ts
-  unfolding FillsSoFar
-  fills_none ts xs rest p = p
-
-  fills_more : (fills : List Fill) (x : Fill) (us vs ts : List Lexeme) → FillsSoFar fills us vs → Filler own d x vs (t.Sign s.Semicolon ∷ ts) → FillsSoFar (fills ++ x ∷ []) us ts
-  unfolding FillsSoFar
-  fills_more fills x us vs ts h p xs rest q = subst (λ (y : List Fill). Fills own d y us rest) (sym (append_assoc fills (x ∷ []) xs)) (h (x ∷ xs) rest (more_fills p q))
-
-  fills_all : (fills : List Fill) (x : Fill) (us vs rest : List Lexeme) → FillsSoFar fills us vs → Filler own d x vs rest → Fills own d (fills ++ x ∷ []) us rest
-  unfolding FillsSoFar
-  fills_all fills x us vs rest h p = h (x ∷ []) rest (one_fill p)
-
-  PairsSoFar : List Pair → List Lexeme → List Lexeme → Type 0
-  PairsSoFar pairs us ts = (more : List Pair) (rest : List Lexeme) → Pairs own d more ts rest → Pairs own d (pairs ++ more) us rest
-
-  pairs_none : (ts : List Lexeme) → PairsSoFar [] ts ts
-  unfolding PairsSoFar
-  pairs_none ts xs rest p = p
-
-  pairs_more : (pairs : List Pair) (x : Pair) (us vs ts : List Lexeme) → PairsSoFar pairs us vs → Entry own d x vs (t.Sign s.Semicolon ∷ ts) → PairsSoFar (pairs ++ x ∷ []) us ts
-  unfolding PairsSoFar
-  pairs_more pairs x us vs ts h p xs rest q = subst (λ (y : List Pair). Pairs own d y us rest) (sym (append_assoc pairs (x ∷ []) xs)) (h (x ∷ xs) rest (more_pairs p q))
-
-  pairs_all : (pairs : List Pair) (x : Pair) (us vs rest : List Lexeme) → PairsSoFar pairs us vs → Entry own d x vs rest → Pairs own d (pairs ++ x ∷ []) us rest
-  unfolding PairsSoFar
-  pairs_all pairs x us vs rest h p = h (x ∷ []) rest (one_pair p)
-
+module _ (own : List (List ℕ)) (d : ℕ) where
   -- the key of a pair stands before the rest
   IsKey : Expr → List Lexeme → List Lexeme → Type 0
   IsKey key vs rest = (c : ℕ) × (ws : List Lexeme) × (parts : List Expr) × (d ≡ suc c) × (vs ≡ t.Sign s.Bracket ∷ ws) × Parts own c parts ws (t.Sign s.Unbracket ∷ rest) × (key ≡ compound parts)
@@ -129,20 +103,21 @@ is_key : (own : List (List ℕ)) (c : ℕ) (parts : List Expr) (ws rest : List L
 unfolding IsKey
 is_key own c parts ws rest p = (c, ws, parts, refl, refl, p, refl)
 
--- the tree in front of all the tokens, one expression or a compound
+-- the tree in front of all the tokens, one expression or a compound, which ends there
 Ended : List (List ℕ) → ℕ → ℕ → List Lexeme → Bool → Expr → List Lexeme → Type 0
-Ended own most least all true a rest = Spells own most least a all rest
-Ended own most least all false a rest = Spelled own most a all rest
+Ended own most least all true a rest = IsFront own most least all a rest
+Ended own most least all false a rest = IsWholeFront own most all a rest
 
-ended_single : (own : List (List ℕ)) (most least : ℕ) (all rest : List Lexeme) (alone : Bool) (a : Expr) → alone ≡ true → Spells own most least a all rest → Ended own most least all alone a rest
+ended_single : (own : List (List ℕ)) (most least : ℕ) (all rest : List Lexeme) (alone : Bool) (a : Expr) → alone ≡ true → IsFront own most least all a rest → Ended own most least all alone a rest
 unfolding Ended
 ended_single own most least all rest true a h p = p
 ended_single own most least all rest false a h p = cc
 
-ended_parts : (own : List (List ℕ)) (most least : ℕ) (all rest : List Lexeme) (alone : Bool) (parts : List Expr) → alone ≡ false → Parts own most parts all rest → Ended own most least all alone (compound parts) rest
+ended_parts : (own : List (List ℕ)) (most least : ℕ) (all rest : List Lexeme) (alone : Bool) (parts : List Expr) → alone ≡ false → Parts own most parts all rest
+    → EndsBefore own 1 rest → NoComma rest → Ended own most least all alone (compound parts) rest
 unfolding Ended
-ended_parts own most least all rest true parts h p = cc
-ended_parts own most least all rest false parts h p = (parts, p, refl)
+ended_parts own most least all rest true parts h p end free = cc
+ended_parts own most least all rest false parts h p end free = ((parts, p, refl), end, free)
 
 module _ (own : List (List ℕ)) (most least : ℕ) (least_low : least ≤ 10) (all : List Lexeme) (single_only : Bool) (leaves : Leaves)
     (leaf_sound : (d : ℕ) (token : Lexeme) (a : Expr) → leaves d token ≡ Some a → (n : ℕ) → n ≤ 10 → (ts : List Lexeme) → Spells own d n a (token ∷ ts) ts) where
@@ -151,25 +126,29 @@ module _ (own : List (List ℕ)) (most least : ℕ) (least_low : least ≤ 10) (
   Pending [] k d ts = ⊥
   Pending (f.Between j i a ∷ stack) k d ts = (us : List Lexeme) × (token : Lexeme) × (infix_of own token ≡ Some i) × Spells own d i.left a us (token ∷ ts) × (k ≡ i.right) × (j ≤ i.gives) × Pending stack j d us
   Pending (f.Before j join ∷ stack) k d ts = (token : Lexeme) × (lead own token ts ≡ Some join) × (k ≡ 7) × (j ≤ 7) × Pending stack j d (token ∷ ts)
-  Pending (f.Inside j (grp.Whole parts) ∷ stack) k d ts = (k ≡ 1) × (d ≡ most) × (single_only ≡ false) × SoFar own d parts all ts
+  Pending (f.Inside j (grp.Whole parts) ∷ stack) k d ts = (k ≡ 1) × (d ≡ most) × (single_only ≡ false) × SoFar (Parts own d) parts all ts
   Pending (f.Inside j grp.Single ∷ stack) k d ts = (k ≡ least) × (d ≡ most) × (single_only ≡ true) × (ts ≡ all)
-  Pending (f.Inside j (grp.Round parts) ∷ stack) k d ts = (k ≡ 1) × (j ≤ 10) × (us : List Lexeme) × SoFar own d parts us ts × Pending stack j (suc d) (t.Sign s.Open ∷ us)
-  Pending (f.Inside j (grp.Select a parts) ∷ stack) k d ts = (k ≡ 1) × (j ≤ 10) × (us : List Lexeme) × SoFar own d parts us ts
+  Pending (f.Inside j (grp.Round parts) ∷ stack) k d ts = (k ≡ 1) × (j ≤ 10) × (us : List Lexeme) × SoFar (Parts own d) parts us ts × Pending stack j (suc d) (t.Sign s.Open ∷ us)
+  Pending (f.Inside j (grp.Select a parts) ∷ stack) k d ts = (k ≡ 1) × (j ≤ 10) × (us : List Lexeme) × SoFar (Parts own d) parts us ts
       × (vs : List Lexeme) × Spells own (suc d) 10 a vs (t.Sign s.Bracket ∷ us) × Pending stack j (suc d) vs
-  Pending (f.Inside j (grp.Key pairs parts) ∷ stack) k d ts = (k ≡ 1) × (j ≤ 10) × (us : List Lexeme) × SoFar own d parts us ts
-      × (vs : List Lexeme) × PairsSoFar own (suc d) pairs vs (t.Sign s.Bracket ∷ us) × Pending stack j (suc (suc d)) (t.Sign s.Brace ∷ vs)
-  Pending (f.Inside j (grp.Fill fills) ∷ stack) k d ts = (k ≡ 1) × (j ≤ 10) × (us : List Lexeme) × FillsSoFar own d fills us ts × Pending stack j (suc d) (t.Sign s.Brace ∷ us)
-  Pending (f.Inside j (grp.Range fills from) ∷ stack) k d ts = (k ≡ 1) × (j ≤ 10) × (us : List Lexeme) × (vs : List Lexeme) × FillsSoFar own d fills us vs
+  Pending (f.Inside j (grp.Key pairs parts) ∷ stack) k d ts = (k ≡ 1) × (j ≤ 10) × (us : List Lexeme) × SoFar (Parts own d) parts us ts
+      × (vs : List Lexeme) × SoFar (Pairs own (suc d)) pairs vs (t.Sign s.Bracket ∷ us) × Pending stack j (suc (suc d)) (t.Sign s.Brace ∷ vs)
+  Pending (f.Inside j (grp.Fill fills) ∷ stack) k d ts = (k ≡ 1) × (j ≤ 10) × (us : List Lexeme) × SoFar (Fills own d) fills us ts × Pending stack j (suc d) (t.Sign s.Brace ∷ us)
+  Pending (f.Inside j (grp.Range fills from) ∷ stack) k d ts = (k ≡ 1) × (j ≤ 10) × (us : List Lexeme) × (vs : List Lexeme) × SoFar (Fills own d) fills us vs
       × Spells own d 1 from vs (t.Sign s.PointPoint ∷ ts) × Pending stack j (suc d) (t.Sign s.Brace ∷ us)
-  Pending (f.Inside j (grp.Associate pairs key) ∷ stack) k d ts = (k ≡ 1) × (j ≤ 10) × (us : List Lexeme) × (vs : List Lexeme) × PairsSoFar own d pairs us vs
+  Pending (f.Inside j (grp.Associate pairs key) ∷ stack) k d ts = (k ≡ 1) × (j ≤ 10) × (us : List Lexeme) × (vs : List Lexeme) × SoFar (Pairs own d) pairs us vs
       × IsKey own d key vs (t.Sign s.Colon ∷ ts) × Pending stack j (suc d) (t.Sign s.Brace ∷ us)
+
+  -- an operand of level m stands in a place of least level k
+  abbrev Holds : ℕ → List Frame → ℕ → ℕ → Expr → List Lexeme → Type 0
+  Holds d stack k m a ts = (us : List Lexeme) × Spells own d m a us ts × (k ≤ m) × Pending stack k d us
 
   abbrev Stands : ℕ → List Frame → Turn → List Lexeme → Type 0
   Stands d stack (turn.Wants k) ts = Pending stack k d ts
-  Stands d stack (turn.Has k m a) ts = (us : List Lexeme) × Spells own d m a us ts × (k ≤ m) × Pending stack k d us
+  Stands d stack (turn.Has k m a) ts = (us : List Lexeme) × Spells own d m a us ts × (k ≤ m) × Pending stack k d us × (m ≡ 10)
   Stands d stack (turn.Display k) ts = Pending stack k (suc d) (t.Sign s.Brace ∷ ts)
-  Stands d stack (turn.Pair k pairs) ts = (us : List Lexeme) × PairsSoFar own d pairs us ts × Pending stack k (suc d) (t.Sign s.Brace ∷ us)
-  Stands d stack (turn.Colon k pairs key) ts = (us : List Lexeme) × (vs : List Lexeme) × PairsSoFar own d pairs us vs × IsKey own d key vs ts × Pending stack k (suc d) (t.Sign s.Brace ∷ us)
+  Stands d stack (turn.Pair k pairs) ts = (us : List Lexeme) × SoFar (Pairs own d) pairs us ts × Pending stack k (suc d) (t.Sign s.Brace ∷ us)
+  Stands d stack (turn.Colon k pairs key) ts = (us : List Lexeme) × (vs : List Lexeme) × SoFar (Pairs own d) pairs us vs × IsKey own d key vs ts × Pending stack k (suc d) (t.Sign s.Brace ∷ us)
 
   right_low : (i : Infix) → HasShape i → i.right ≤ 10
   right_low i h = grind arith
@@ -195,14 +174,14 @@ module _ (own : List (List ℕ)) (most least : ℕ) (least_low : least ≤ 10) (
 
   -- a frame that ends
   end_between : (stack : List Frame) (j k d m : ℕ) (i : Infix) (left a : Expr) (us rest : List Lexeme) → Spells own d m a us rest → k ≤ m
-      → Pending (f.Between j i left ∷ stack) k d us → Stands d stack (turn.Has j i.gives (joined2 i.join left a)) rest
+      → Pending (f.Between j i left ∷ stack) k d us → Holds d stack j i.gives (joined2 i.join left a) rest
   end_between stack j k d m i left a us rest p le h =
       let e : k ≡ i.right = h.4 in
       let low : i.gives ≤ i.gives = omega arith in
       (h.0, between low h.2 h.3 (weaken p i.right (omega arith)), h.5, h.6)
 
   end_before : (stack : List Frame) (j k d m : ℕ) (join : Join) (a : Expr) (us rest : List Lexeme) → Spells own d m a us rest → k ≤ m
-      → Pending (f.Before j join ∷ stack) k d us → Stands d stack (turn.Has j 7 (joined1 join a)) rest
+      → Pending (f.Before j join ∷ stack) k d us → Holds d stack j 7 (joined1 join a) rest
   end_before stack j k d m join a us rest p le h =
       let e : k ≡ 7 = h.2 in
       let low : 7 ≤ 7 = omega arith in
@@ -293,30 +272,31 @@ module _ (own : List (List ℕ)) (most least : ℕ) (least_low : least ≤ 10) (
   Good d stack j token ts (done.Stops a) = Ended own most least all single_only a (token ∷ ts)
   Good d stack j token ts done.Wrong = Unit {0}
 
-  stops_parts : (d : ℕ) (parts : List Expr) (a : Expr) (us rest : List Lexeme) → Spells own d 1 a us rest → d ≡ most → single_only ≡ false → SoFar own d parts all us
-      → Ended own most least all single_only (compound (parts ++ a ∷ [])) rest
-  stops_parts d parts a us rest p e h so =
-      ended_parts own most least all rest single_only (parts ++ a ∷ []) h (subst (λ (x : ℕ). Parts own x (parts ++ a ∷ []) all rest) e (sofar_all own d parts a all us rest so p))
+  stops_parts : (d : ℕ) (parts : List Expr) (a : Expr) (us rest : List Lexeme) → Spells own d 1 a us rest → d ≡ most → single_only ≡ false → SoFar (Parts own d) parts all us
+      → EndsBefore own 1 rest → NoComma rest → Ended own most least all single_only (compound (parts ++ a ∷ [])) rest
+  stops_parts d parts a us rest p e h so end free =
+      ended_parts own most least all rest single_only (parts ++ a ∷ []) h (subst (λ (x : ℕ). Parts own x (parts ++ a ∷ []) all rest) e (sofar_all (Parts own d) parts a all us rest so (one p))) end free
 
-  stops_single : (d : ℕ) (a : Expr) (us rest : List Lexeme) → Spells own d least a us rest → d ≡ most → single_only ≡ true → us ≡ all → Ended own most least all single_only a rest
-  stops_single d a us rest p e h is =
-      ended_single own most least all rest single_only a h (subst (λ (x : ℕ). Spells own x least a all rest) e (subst (λ (x : List Lexeme). Spells own d least a x rest) is p))
+  stops_single : (d : ℕ) (a : Expr) (us rest : List Lexeme) → Spells own d least a us rest → d ≡ most → single_only ≡ true → us ≡ all
+      → EndsBefore own least rest → Ended own most least all single_only a rest
+  stops_single d a us rest p e h is end =
+      ended_single own most least all rest single_only a h (subst (λ (x : ℕ). Spells own x least a all rest) e (subst (λ (x : List Lexeme). Spells own d least a x rest) is p), end)
 
   good_whole : (parts : List Expr) (token : Lexeme) (d : ℕ) (stack : List Frame) (j : ℕ) (a : Expr) (us ts : List Lexeme) → Spells own d 1 a us (token ∷ ts)
-      → Pending (f.Inside j (grp.Whole parts) ∷ stack) 1 d us → Good d stack j token ts (settled (grp.Whole parts) (sign_of token) a)
-  good_whole parts (t.Sign s.Comma) d stack j a us ts p h = (refl, h.1, h.2, sofar_more own d parts a all us ts h.3 p)
-  good_whole parts (t.Sign sign) d stack j a us ts p h = stops_parts d parts a us (t.Sign sign ∷ ts) p h.1 h.2 h.3
-  good_whole parts (t.Number bytes) d stack j a us ts p h = stops_parts d parts a us (t.Number bytes ∷ ts) p h.1 h.2 h.3
-  good_whole parts (t.Name x) d stack j a us ts p h = stops_parts d parts a us (t.Name x ∷ ts) p h.1 h.2 h.3
-  good_whole parts (t.Keyword x) d stack j a us ts p h = stops_parts d parts a us (t.Keyword x ∷ ts) p h.1 h.2 h.3
-  good_whole parts (t.Text bytes) d stack j a us ts p h = stops_parts d parts a us (t.Text bytes ∷ ts) p h.1 h.2 h.3
-  good_whole parts t.Other d stack j a us ts p h = stops_parts d parts a us (t.Other ∷ ts) p h.1 h.2 h.3
+      → Pending (f.Inside j (grp.Whole parts) ∷ stack) 1 d us → EndsBefore own 1 (token ∷ ts) → Good d stack j token ts (settled (grp.Whole parts) (sign_of token) a)
+  good_whole parts (t.Sign s.Comma) d stack j a us ts p h end = (refl, h.1, h.2, sofar_more (Parts own d) parts a all us ts h.3 (λ xs rest q. more p q))
+  good_whole parts (t.Sign sign) d stack j a us ts p h end = stops_parts d parts a us (t.Sign sign ∷ ts) p h.1 h.2 h.3 end (λ e. cc)
+  good_whole parts (t.Number bytes) d stack j a us ts p h end = stops_parts d parts a us (t.Number bytes ∷ ts) p h.1 h.2 h.3 end (λ e. cc)
+  good_whole parts (t.Name x) d stack j a us ts p h end = stops_parts d parts a us (t.Name x ∷ ts) p h.1 h.2 h.3 end (λ e. cc)
+  good_whole parts (t.Keyword x) d stack j a us ts p h end = stops_parts d parts a us (t.Keyword x ∷ ts) p h.1 h.2 h.3 end (λ e. cc)
+  good_whole parts (t.Text bytes) d stack j a us ts p h end = stops_parts d parts a us (t.Text bytes ∷ ts) p h.1 h.2 h.3 end (λ e. cc)
+  good_whole parts t.Other d stack j a us ts p h end = stops_parts d parts a us (t.Other ∷ ts) p h.1 h.2 h.3 end (λ e. cc)
 
   good_round : (parts : List Expr) (token : Lexeme) (d : ℕ) (stack : List Frame) (j : ℕ) (a : Expr) (us ts : List Lexeme) → Spells own d 1 a us (token ∷ ts)
       → Pending (f.Inside j (grp.Round parts) ∷ stack) 1 d us → Good d stack j token ts (settled (grp.Round parts) (sign_of token) a)
-  good_round parts (t.Sign s.Comma) d stack j a us ts p h = (refl, h.1, h.2, sofar_more own d parts a h.2 us ts h.3 p, h.4)
+  good_round parts (t.Sign s.Comma) d stack j a us ts p h = (refl, h.1, h.2, sofar_more (Parts own d) parts a h.2 us ts h.3 (λ xs rest q. more p q), h.4)
   good_round parts (t.Sign s.Close) d stack j a us ts p h =
-      (t.Sign s.Open ∷ h.2, round (omega arith) (sofar_all own d parts a h.2 us (t.Sign s.Close ∷ ts) h.3 p), h.1, h.4)
+      (t.Sign s.Open ∷ h.2, round (omega arith) (sofar_all (Parts own d) parts a h.2 us (t.Sign s.Close ∷ ts) h.3 (one p)), h.1, h.4, refl)
   good_round parts (t.Sign _) d stack j a us ts p h = tt
   good_round parts (t.Number bytes) d stack j a us ts p h = tt
   good_round parts (t.Name x) d stack j a us ts p h = tt
@@ -326,9 +306,9 @@ module _ (own : List (List ℕ)) (most least : ℕ) (least_low : least ≤ 10) (
 
   good_select : (c : Expr) (parts : List Expr) (token : Lexeme) (d : ℕ) (stack : List Frame) (j : ℕ) (a : Expr) (us ts : List Lexeme) → Spells own d 1 a us (token ∷ ts)
       → Pending (f.Inside j (grp.Select c parts) ∷ stack) 1 d us → Good d stack j token ts (settled (grp.Select c parts) (sign_of token) a)
-  good_select c parts (t.Sign s.Comma) d stack j a us ts p h = (refl, h.1, h.2, sofar_more own d parts a h.2 us ts h.3 p, h.4, h.5, h.6)
+  good_select c parts (t.Sign s.Comma) d stack j a us ts p h = (refl, h.1, h.2, sofar_more (Parts own d) parts a h.2 us ts h.3 (λ xs rest q. more p q), h.4, h.5, h.6)
   good_select c parts (t.Sign s.Unbracket) d stack j a us ts p h =
-      (h.4, select (omega arith) h.5 (sofar_all own d parts a h.2 us (t.Sign s.Unbracket ∷ ts) h.3 p), h.1, h.6)
+      (h.4, select (omega arith) h.5 (sofar_all (Parts own d) parts a h.2 us (t.Sign s.Unbracket ∷ ts) h.3 (one p)), h.1, h.6, refl)
   good_select c parts (t.Sign _) d stack j a us ts p h = tt
   good_select c parts (t.Number bytes) d stack j a us ts p h = tt
   good_select c parts (t.Name x) d stack j a us ts p h = tt
@@ -338,9 +318,9 @@ module _ (own : List (List ℕ)) (most least : ℕ) (least_low : least ≤ 10) (
 
   good_key : (pairs : List Pair) (parts : List Expr) (token : Lexeme) (d : ℕ) (stack : List Frame) (j : ℕ) (a : Expr) (us ts : List Lexeme) → Spells own d 1 a us (token ∷ ts)
       → Pending (f.Inside j (grp.Key pairs parts) ∷ stack) 1 d us → Good d stack j token ts (settled (grp.Key pairs parts) (sign_of token) a)
-  good_key pairs parts (t.Sign s.Comma) d stack j a us ts p h = (refl, h.1, h.2, sofar_more own d parts a h.2 us ts h.3 p, h.4, h.5, h.6)
+  good_key pairs parts (t.Sign s.Comma) d stack j a us ts p h = (refl, h.1, h.2, sofar_more (Parts own d) parts a h.2 us ts h.3 (λ xs rest q. more p q), h.4, h.5, h.6)
   good_key pairs parts (t.Sign s.Unbracket) d stack j a us ts p h =
-      (h.4, t.Sign s.Bracket ∷ h.2, h.5, is_key own d (parts ++ a ∷ []) h.2 ts (sofar_all own d parts a h.2 us (t.Sign s.Unbracket ∷ ts) h.3 p), h.6)
+      (h.4, t.Sign s.Bracket ∷ h.2, h.5, is_key own d (parts ++ a ∷ []) h.2 ts (sofar_all (Parts own d) parts a h.2 us (t.Sign s.Unbracket ∷ ts) h.3 (one p)), h.6)
   good_key pairs parts (t.Sign _) d stack j a us ts p h = tt
   good_key pairs parts (t.Number bytes) d stack j a us ts p h = tt
   good_key pairs parts (t.Name x) d stack j a us ts p h = tt
@@ -351,9 +331,9 @@ module _ (own : List (List ℕ)) (most least : ℕ) (least_low : least ≤ 10) (
   good_fill : (fills : List Fill) (token : Lexeme) (d : ℕ) (stack : List Frame) (j : ℕ) (a : Expr) (us ts : List Lexeme) → Spells own d 1 a us (token ∷ ts)
       → Pending (f.Inside j (grp.Fill fills) ∷ stack) 1 d us → Good d stack j token ts (settled (grp.Fill fills) (sign_of token) a)
   good_fill fills (t.Sign s.PointPoint) d stack j a us ts p h = (refl, h.1, h.2, us, h.3, p, h.4)
-  good_fill fills (t.Sign s.Semicolon) d stack j a us ts p h = (refl, h.1, h.2, fills_more own d fills (fill.One a) h.2 us ts h.3 (single p), h.4)
+  good_fill fills (t.Sign s.Semicolon) d stack j a us ts p h = (refl, h.1, h.2, sofar_more (Fills own d) fills (fill.One a) h.2 us ts h.3 (λ xs rest q. more_fills (single p) q), h.4)
   good_fill fills (t.Sign s.Unbrace) d stack j a us ts p h =
-      (t.Sign s.Brace ∷ h.2, list (omega arith) (fills_all own d fills (fill.One a) h.2 us (t.Sign s.Unbrace ∷ ts) h.3 (single p)), h.1, h.4)
+      (t.Sign s.Brace ∷ h.2, list (omega arith) (sofar_all (Fills own d) fills (fill.One a) h.2 us (t.Sign s.Unbrace ∷ ts) h.3 (one_fill (single p))), h.1, h.4, refl)
   good_fill fills (t.Sign _) d stack j a us ts p h = tt
   good_fill fills (t.Number bytes) d stack j a us ts p h = tt
   good_fill fills (t.Name x) d stack j a us ts p h = tt
@@ -363,9 +343,9 @@ module _ (own : List (List ℕ)) (most least : ℕ) (least_low : least ≤ 10) (
 
   good_range : (fills : List Fill) (from : Expr) (token : Lexeme) (d : ℕ) (stack : List Frame) (j : ℕ) (a : Expr) (us ts : List Lexeme) → Spells own d 1 a us (token ∷ ts)
       → Pending (f.Inside j (grp.Range fills from) ∷ stack) 1 d us → Good d stack j token ts (settled (grp.Range fills from) (sign_of token) a)
-  good_range fills from (t.Sign s.Semicolon) d stack j a us ts p h = (refl, h.1, h.2, fills_more own d fills (fill.Range from a) h.2 h.3 ts h.4 (range h.5 p), h.6)
+  good_range fills from (t.Sign s.Semicolon) d stack j a us ts p h = (refl, h.1, h.2, sofar_more (Fills own d) fills (fill.Range from a) h.2 h.3 ts h.4 (λ xs rest q. more_fills (range h.5 p) q), h.6)
   good_range fills from (t.Sign s.Unbrace) d stack j a us ts p h =
-      (t.Sign s.Brace ∷ h.2, list (omega arith) (fills_all own d fills (fill.Range from a) h.2 h.3 (t.Sign s.Unbrace ∷ ts) h.4 (range h.5 p)), h.1, h.6)
+      (t.Sign s.Brace ∷ h.2, list (omega arith) (sofar_all (Fills own d) fills (fill.Range from a) h.2 h.3 (t.Sign s.Unbrace ∷ ts) h.4 (one_fill (range h.5 p))), h.1, h.6, refl)
   good_range fills from (t.Sign _) d stack j a us ts p h = tt
   good_range fills from (t.Number bytes) d stack j a us ts p h = tt
   good_range fills from (t.Name x) d stack j a us ts p h = tt
@@ -375,9 +355,9 @@ module _ (own : List (List ℕ)) (most least : ℕ) (least_low : least ≤ 10) (
 
   good_associate : (pairs : List Pair) (key : Expr) (token : Lexeme) (d : ℕ) (stack : List Frame) (j : ℕ) (a : Expr) (us ts : List Lexeme) → Spells own d 1 a us (token ∷ ts)
       → Pending (f.Inside j (grp.Associate pairs key) ∷ stack) 1 d us → Good d stack j token ts (settled (grp.Associate pairs key) (sign_of token) a)
-  good_associate pairs key (t.Sign s.Semicolon) d stack j a us ts p h = (h.2, pairs_more own d pairs (paired key a) h.2 h.3 ts h.4 (is_entry own d key a h.3 us (t.Sign s.Semicolon ∷ ts) h.5 p), h.6)
+  good_associate pairs key (t.Sign s.Semicolon) d stack j a us ts p h = (h.2, sofar_more (Pairs own d) pairs (paired key a) h.2 h.3 ts h.4 (λ xs rest q. more_pairs (is_entry own d key a h.3 us (t.Sign s.Semicolon ∷ ts) h.5 p) q), h.6)
   good_associate pairs key (t.Sign s.Unbrace) d stack j a us ts p h =
-      (t.Sign s.Brace ∷ h.2, table (omega arith) (pairs_all own d pairs (paired key a) h.2 h.3 (t.Sign s.Unbrace ∷ ts) h.4 (is_entry own d key a h.3 us (t.Sign s.Unbrace ∷ ts) h.5 p)), h.1, h.6)
+      (t.Sign s.Brace ∷ h.2, table (omega arith) (sofar_all (Pairs own d) pairs (paired key a) h.2 h.3 (t.Sign s.Unbrace ∷ ts) h.4 (one_pair (is_entry own d key a h.3 us (t.Sign s.Unbrace ∷ ts) h.5 p))), h.1, h.6, refl)
   good_associate pairs key (t.Sign _) d stack j a us ts p h = tt
   good_associate pairs key (t.Number bytes) d stack j a us ts p h = tt
   good_associate pairs key (t.Name x) d stack j a us ts p h = tt
@@ -386,15 +366,18 @@ module _ (own : List (List ℕ)) (most least : ℕ) (least_low : least ≤ 10) (
   good_associate pairs key t.Other d stack j a us ts p h = tt
 
   good : (group : Group) (token : Lexeme) (d : ℕ) (stack : List Frame) (j k m : ℕ) (a : Expr) (us ts : List Lexeme) → Spells own d m a us (token ∷ ts) → k ≤ m
-      → Pending (f.Inside j group ∷ stack) k d us → Good d stack j token ts (settled group (sign_of token) a)
-  good grp.Single token d stack j k m a us ts p le h = let e : k ≡ least = h.0 in stops_single d a us (token ∷ ts) (weaken p least (omega arith)) h.1 h.2 h.3
-  good (grp.Whole parts) token d stack j k m a us ts p le h = let e : k ≡ 1 = h.0 in good_whole parts token d stack j a us ts (weaken p 1 (omega arith)) (at_one (grp.Whole parts) stack j k d us e h)
-  good (grp.Round parts) token d stack j k m a us ts p le h = let e : k ≡ 1 = h.0 in good_round parts token d stack j a us ts (weaken p 1 (omega arith)) (at_one (grp.Round parts) stack j k d us e h)
-  good (grp.Select c parts) token d stack j k m a us ts p le h = let e : k ≡ 1 = h.0 in good_select c parts token d stack j a us ts (weaken p 1 (omega arith)) (at_one (grp.Select c parts) stack j k d us e h)
-  good (grp.Key pairs parts) token d stack j k m a us ts p le h = let e : k ≡ 1 = h.0 in good_key pairs parts token d stack j a us ts (weaken p 1 (omega arith)) (at_one (grp.Key pairs parts) stack j k d us e h)
-  good (grp.Fill fills) token d stack j k m a us ts p le h = let e : k ≡ 1 = h.0 in good_fill fills token d stack j a us ts (weaken p 1 (omega arith)) (at_one (grp.Fill fills) stack j k d us e h)
-  good (grp.Range fills from) token d stack j k m a us ts p le h = let e : k ≡ 1 = h.0 in good_range fills from token d stack j a us ts (weaken p 1 (omega arith)) (at_one (grp.Range fills from) stack j k d us e h)
-  good (grp.Associate pairs key) token d stack j k m a us ts p le h = let e : k ≡ 1 = h.0 in good_associate pairs key token d stack j a us ts (weaken p 1 (omega arith)) (at_one (grp.Associate pairs key) stack j k d us e h)
+      → Pending (f.Inside j group ∷ stack) k d us → EndsBefore own k (token ∷ ts) → Good d stack j token ts (settled group (sign_of token) a)
+  good grp.Single token d stack j k m a us ts p le h end =
+      let e : k ≡ least = h.0 in stops_single d a us (token ∷ ts) (weaken p least (omega arith)) h.1 h.2 h.3 (subst (λ (x : ℕ). EndsBefore own x (token ∷ ts)) e end)
+  good (grp.Whole parts) token d stack j k m a us ts p le h end =
+      let e : k ≡ 1 = h.0 in
+      good_whole parts token d stack j a us ts (weaken p 1 (omega arith)) (at_one (grp.Whole parts) stack j k d us e h) (subst (λ (x : ℕ). EndsBefore own x (token ∷ ts)) e end)
+  good (grp.Round parts) token d stack j k m a us ts p le h end = let e : k ≡ 1 = h.0 in good_round parts token d stack j a us ts (weaken p 1 (omega arith)) (at_one (grp.Round parts) stack j k d us e h)
+  good (grp.Select c parts) token d stack j k m a us ts p le h end = let e : k ≡ 1 = h.0 in good_select c parts token d stack j a us ts (weaken p 1 (omega arith)) (at_one (grp.Select c parts) stack j k d us e h)
+  good (grp.Key pairs parts) token d stack j k m a us ts p le h end = let e : k ≡ 1 = h.0 in good_key pairs parts token d stack j a us ts (weaken p 1 (omega arith)) (at_one (grp.Key pairs parts) stack j k d us e h)
+  good (grp.Fill fills) token d stack j k m a us ts p le h end = let e : k ≡ 1 = h.0 in good_fill fills token d stack j a us ts (weaken p 1 (omega arith)) (at_one (grp.Fill fills) stack j k d us e h)
+  good (grp.Range fills from) token d stack j k m a us ts p le h end = let e : k ≡ 1 = h.0 in good_range fills from token d stack j a us ts (weaken p 1 (omega arith)) (at_one (grp.Range fills from) stack j k d us e h)
+  good (grp.Associate pairs key) token d stack j k m a us ts p le h end = let e : k ≡ 1 = h.0 in good_associate pairs key token d stack j a us ts (weaken p 1 (omega arith)) (at_one (grp.Associate pairs key) stack j k d us e h)
 
   -- ---- one token
 
@@ -414,17 +397,17 @@ module _ (own : List (List ℕ)) (most least : ℕ) (least_low : least ≤ 10) (
 
     chosen : (y : Reach) (d : ℕ) (stack : List Frame) (k m : ℕ) (a : Expr) (us : List Lexeme) (otherwise : Found)
         → Fits token k m y → Spells own d m a us (token ∷ ts) → Pending stack k d us
-        → (otherwise ≡ Some result → R)
+        → within (reach own token) k m ≡ y → (within (reach own token) k m ≡ r.Ends → otherwise ≡ Some result → R)
         → taken y (run leaves own ts) d stack k a otherwise ≡ Some result → R
-    chosen (r.Joins i) d stack k m a us otherwise fit p pd go h =
+    chosen (r.Joins i) d stack k m a us otherwise fit p pd is go h =
         ih d (f.Between k i a ∷ stack) (turn.Wants i.right) (us, token, fit.0, weaken p i.left fit.2, refl, fit.1, pd) h
-    chosen r.Selects d stack k m a us otherwise fit p pd go h =
+    chosen r.Selects d stack k m a us otherwise fit p pd is go h =
         opens_with (grp.Select a []) d k stack
         (λ e q.
         let p' : Spells own (suc e) 10 a us (t.Sign s.Bracket ∷ ts) = subst (λ (x : ℕ). Spells own x 10 a us (t.Sign s.Bracket ∷ ts)) q (subst (λ (x : Lexeme). Spells own d 10 a us (x ∷ ts)) fit.0 (weaken p 10 fit.1)) in
-        (refl, low stack k d us pd, ts, sofar_none own e ts, us, p', subst (λ (x : ℕ). Pending stack k x us) q pd))
+        (refl, low stack k d us pd, ts, sofar_none (Parts own e) ts, us, p', subst (λ (x : ℕ). Pending stack k x us) q pd))
         h
-    chosen r.Ends d stack k m a us otherwise fit p pd go h = go h
+    chosen r.Ends d stack k m a us otherwise fit p pd is go h = go is h
 
     settles_step : (x : Settled) (d j : ℕ) (stack : List Frame) → Good d stack j token ts x → settles x (run leaves own ts) d stack j (token ∷ ts) ≡ Some result → R
     settles_step (done.Goes group) d j stack p h = ih d (f.Inside j group ∷ stack) (turn.Wants 1) p h
@@ -434,27 +417,30 @@ module _ (own : List (List ℕ)) (most least : ℕ) (least_low : least ≤ 10) (
     settles_step (done.Stops a) d j stack p h = let same : result ≡ (a, token ∷ ts) = cc in ends a p same
     settles_step done.Wrong d j stack p h = cc
 
-    has_step : (stack : List Frame) (d k m : ℕ) (a : Expr) (us : List Lexeme) → Spells own d m a us (token ∷ ts) → k ≤ m → Pending stack k d us
+    has_step : (stack : List Frame) (d k m : ℕ) (a : Expr) (us : List Lexeme) → Spells own d m a us (token ∷ ts) → k ≤ m → Pending stack k d us → Full (reach own token) k m
         → taken (within (reach own token) k m) (run leaves own ts) d stack k a (popped own token ts (run leaves own ts) d stack a) ≡ Some result → R
     unfolding popped
-    has_step [] d k m a us p le pd h = absurd pd
-    has_step (f.Between j i left ∷ stack) d k m a us p le pd h =
+    has_step [] d k m a us p le pd full h = absurd pd
+    has_step (f.Between j i left ∷ stack) d k m a us p le pd full h =
         let up = end_between stack j k d m i left a us (token ∷ ts) p le pd in
-        chosen (within (reach own token) k m) d (f.Between j i left ∷ stack) k m a us (popped own token ts (run leaves own ts) d (f.Between j i left ∷ stack) a) (fits token k m) p pd
-        (has_step stack d j i.gives (joined2 i.join left a) up.0 up.1 up.2 up.3) h
-    has_step (f.Before j join ∷ stack) d k m a us p le pd h =
+        chosen (within (reach own token) k m) d (f.Between j i left ∷ stack) k m a us (popped own token ts (run leaves own ts) d (f.Between j i left ∷ stack) a) (fits token k m) p pd refl
+        (λ none. has_step stack d j i.gives (joined2 i.join left a) up.0 up.1 up.2 up.3
+        (full_between (reach own token) i j k (shaped_reach own token) (shape_of own pd.1 i pd.2) pd.4 (passed (reach own token) k m full none))) h
+    has_step (f.Before j join ∷ stack) d k m a us p le pd full h =
         let up = end_before stack j k d m join a us (token ∷ ts) p le pd in
-        chosen (within (reach own token) k m) d (f.Before j join ∷ stack) k m a us (popped own token ts (run leaves own ts) d (f.Before j join ∷ stack) a) (fits token k m) p pd
-        (has_step stack d j 7 (joined1 join a) up.0 up.1 up.2 up.3) h
-    has_step (f.Inside j group ∷ stack) d k m a us p le pd h =
-        chosen (within (reach own token) k m) d (f.Inside j group ∷ stack) k m a us (popped own token ts (run leaves own ts) d (f.Inside j group ∷ stack) a) (fits token k m) p pd
-        (settles_step (settled group (sign_of token) a) d j stack (good group token d stack j k m a us ts p le pd)) h
+        chosen (within (reach own token) k m) d (f.Before j join ∷ stack) k m a us (popped own token ts (run leaves own ts) d (f.Before j join ∷ stack) a) (fits token k m) p pd refl
+        (λ none. has_step stack d j 7 (joined1 join a) up.0 up.1 up.2 up.3
+        (full_before (reach own token) j k (shaped_reach own token) pd.2 (passed (reach own token) k m full none))) h
+    has_step (f.Inside j group ∷ stack) d k m a us p le pd full h =
+        chosen (within (reach own token) k m) d (f.Inside j group ∷ stack) k m a us (popped own token ts (run leaves own ts) d (f.Inside j group ∷ stack) a) (fits token k m) p pd refl
+        (λ none. settles_step (settled group (sign_of token) a) d j stack
+        (good group token d stack j k m a us ts p le pd (ends_before own token ts k (passed (reach own token) k m full none)))) h
 
     wants_step : (x : Operand) (stack : List Frame) (d k : ℕ) → Told d token ts x → Pending stack k d (token ∷ ts)
         → wanted x (run leaves own ts) d stack k ≡ Some result → R
     wants_step (o.Leaf a) stack d k w pd h =
         let le : 10 ≤ 10 = omega arith in
-        ih d stack (turn.Has k 10 a) (token ∷ ts, w 10 le, low stack k d (token ∷ ts) pd, pd) h
+        ih d stack (turn.Has k 10 a) (token ∷ ts, w 10 le, low stack k d (token ∷ ts) pd, pd, refl) h
     wants_step (o.Leads join) stack d k w pd h =
         let q = if_some (nat_le k 7) (run leaves own ts d (f.Before k join ∷ stack) (turn.Wants 7)) result h in
         ih d (f.Before k join ∷ stack) (turn.Wants 7) (token, w, refl, leb-true k 7 q.0, pd) q.1
@@ -463,14 +449,14 @@ module _ (own : List (List ℕ)) (most least : ℕ) (least_low : least ≤ 10) (
           refl,
           low stack k d (token ∷ ts) pd,
           ts,
-          sofar_none own e ts,
+          sofar_none (Parts own e) ts,
           subst (λ (x : ℕ). Pending stack k x (t.Sign s.Open ∷ ts)) q (subst (λ (x : Lexeme). Pending stack k d (x ∷ ts)) w pd),
         )) h
     wants_step o.Displays stack d k w pd h =
         displays_with d k stack (λ e q. subst (λ (x : ℕ). Pending stack k x (t.Sign s.Brace ∷ ts)) q (subst (λ (x : Lexeme). Pending stack k d (x ∷ ts)) w pd)) h
     wants_step o.Wrong stack d k w pd h = cc
 
-    key_step : (d k : ℕ) (stack : List Frame) (pairs : List Pair) (us : List Lexeme) → token ≡ t.Sign s.Bracket → PairsSoFar own d pairs us (token ∷ ts)
+    key_step : (d k : ℕ) (stack : List Frame) (pairs : List Pair) (us : List Lexeme) → token ≡ t.Sign s.Bracket → SoFar (Pairs own d) pairs us (token ∷ ts)
         → Pending stack k (suc d) (t.Sign s.Brace ∷ us) → opened (grp.Key pairs []) k (run leaves own ts) d stack ≡ Some result → R
     key_step d k stack pairs us is so pd h =
         opens_with (grp.Key pairs []) d k stack
@@ -478,9 +464,9 @@ module _ (own : List (List ℕ)) (most least : ℕ) (least_low : least ≤ 10) (
           refl,
           low stack k (suc d) (t.Sign s.Brace ∷ us) pd,
           ts,
-          sofar_none own e ts,
+          sofar_none (Parts own e) ts,
           us,
-          subst (λ (x : ℕ). PairsSoFar own x pairs us (t.Sign s.Bracket ∷ ts)) q (subst (λ (x : Lexeme). PairsSoFar own d pairs us (x ∷ ts)) is so),
+          subst (λ (x : ℕ). SoFar (Pairs own x) pairs us (t.Sign s.Bracket ∷ ts)) q (subst (λ (x : Lexeme). SoFar (Pairs own d) pairs us (x ∷ ts)) is so),
           subst (λ (x : ℕ). Pending stack k (suc x) (t.Sign s.Brace ∷ us)) q pd,
         ))
         h
@@ -492,10 +478,10 @@ module _ (own : List (List ℕ)) (most least : ℕ) (least_low : least ≤ 10) (
         let token_is : token ≡ t.Sign s.Unbrace = sure s.Unbrace is (λ z. cc) in
         let le : 10 ≤ 10 = omega arith in
         let p : Spells own (suc d) 10 e.Empty (t.Sign s.Brace ∷ token ∷ ts) ts = subst (λ (x : Lexeme). Spells own (suc d) 10 e.Empty (t.Sign s.Brace ∷ x ∷ ts) ts) (sym token_is) (empty le) in
-        ih (suc d) stack (turn.Has k 10 e.Empty) (t.Sign s.Brace ∷ token ∷ ts, p, low stack k (suc d) (t.Sign s.Brace ∷ token ∷ ts) pd, pd) h
-    display_step s.Bracket x stack d k is w pd sure h = key_step d k stack [] (token ∷ ts) (sure s.Bracket is (λ z. cc)) (pairs_none own d (token ∷ ts)) pd h
+        ih (suc d) stack (turn.Has k 10 e.Empty) (t.Sign s.Brace ∷ token ∷ ts, p, low stack k (suc d) (t.Sign s.Brace ∷ token ∷ ts) pd, pd, refl) h
+    display_step s.Bracket x stack d k is w pd sure h = key_step d k stack [] (token ∷ ts) (sure s.Bracket is (λ z. cc)) (sofar_none (Pairs own d) (token ∷ ts)) pd h
     display_step _ x stack d k is w pd sure h =
-        wants_step x (f.Inside k (grp.Fill []) ∷ stack) d 1 w (refl, low stack k (suc d) (t.Sign s.Brace ∷ token ∷ ts) pd, token ∷ ts, fills_none own d (token ∷ ts), pd) h
+        wants_step x (f.Inside k (grp.Fill []) ∷ stack) d 1 w (refl, low stack k (suc d) (t.Sign s.Brace ∷ token ∷ ts) pd, token ∷ ts, sofar_none (Fills own d) (token ∷ ts), pd) h
 
     pair_step : (sign : Sign) (stack : List Frame) (d k : ℕ) (pairs : List Pair) → sign_of token ≡ sign → ((c : Sign) → sign_of token ≡ c → (c ≡ s.Other → ⊥) → token ≡ t.Sign c)
         → Stands d stack (turn.Pair k pairs) (token ∷ ts) → at_pair sign (run leaves own ts) d stack k pairs ≡ Some result → R
@@ -533,11 +519,11 @@ module _ (own : List (List ℕ)) (most least : ℕ) (least_low : least ≤ 10) (
   at_last (f.Inside j (grp.Whole parts) ∷ stack) d k m a result us p le pd h =
       let e : k ≡ 1 = pd.0 in
       let same : result ≡ (compound (parts ++ a ∷ []), []) = cc in
-      told_end (compound (parts ++ a ∷ [])) [] result (stops_parts d parts a us [] (weaken p 1 (omega arith)) pd.1 pd.2 pd.3) same
+      told_end (compound (parts ++ a ∷ [])) [] result (stops_parts d parts a us [] (weaken p 1 (omega arith)) pd.1 pd.2 pd.3 tt tt) same
   at_last (f.Inside j grp.Single ∷ stack) d k m a result us p le pd h =
       let e : k ≡ least = pd.0 in
       let same : result ≡ (a, []) = cc in
-      told_end a [] result (stops_single d a us [] (weaken p least (omega arith)) pd.1 pd.2 pd.3) same
+      told_end a [] result (stops_single d a us [] (weaken p least (omega arith)) pd.1 pd.2 pd.3 tt) same
   at_last (f.Inside j (grp.Round parts) ∷ stack) d k m a result us p le pd h = cc
   at_last (f.Inside j (grp.Select c parts) ∷ stack) d k m a result us p le pd h = cc
   at_last (f.Inside j (grp.Key pairs parts) ∷ stack) d k m a result us p le pd h = cc
@@ -558,7 +544,7 @@ module _ (own : List (List ℕ)) (most least : ℕ) (least_low : least ≤ 10) (
       (operand own (leaves d token) token ts) stack d k (told d token ts) h e
   sound (token ∷ ts) result d stack (turn.Has k m a) h e =
       has_step token ts result (Ended own most least all single_only result.0 result.1) (λ a p q. told_end a (token ∷ ts) result p q) (λ d stack t p q. sound ts result d stack t p q)
-      stack d k m a h.0 h.1 h.2 h.3 e
+      stack d k m a h.0 h.1 h.2 h.3 (full_at_first (reach own token) k m (shaped_reach own token) h.4) e
   sound (token ∷ ts) result d stack (turn.Display k) h e =
       display_step token ts result (Ended own most least all single_only result.0 result.1) (λ a p q. told_end a (token ∷ ts) result p q) (λ d stack t p q. sound ts result d stack t p q)
       (sign_of token) (operand own (leaves d token) token ts) stack d k refl (told d token ts) h (sure token) e
@@ -576,7 +562,7 @@ alone_some None a h = cc
 alone_some (Some (b, [])) a h = let e : b ≡ a = cc in ap (λ (y : Expr). let r : Found = Some (y, []) in r) e
 alone_some (Some (b, t ∷ ts)) a h = cc
 
-module _ (law : ReadsTokens) (own : List (List ℕ)) (convert : Converts) (convert_sound : (d : ℕ) (bytes : List ℕ) (a : Expr) → convert d bytes ≡ Some a
+module _ (law : OneReading) (own : List (List ℕ)) (convert : Converts) (convert_sound : (d : ℕ) (bytes : List ℕ) (a : Expr) → convert d bytes ≡ Some a
     → (ts : List Token) × (fields : List Expr) × AreTokens bytes ts × Parts own d fields (map (seen bytes) ts) [] × (a ≡ compound fields)) where
   piece_told : (d : ℕ) (bytes : List ℕ) (x : Option Expr) (parts : List Part) (q : Option (List Piece)) (pieces : List Piece) → conversion_at convert d bytes ≡ x
       → ((pieces : List Piece) → q ≡ Some pieces → Pieces own d parts pieces)
@@ -631,38 +617,45 @@ module _ (law : ReadsTokens) (own : List (List ℕ)) (convert : Converts) (conve
 abbrev ConvertTold : List (List ℕ) → ℕ → List ℕ → Expr → Type 0
 ConvertTold own d bytes a = (ts : List Token) × (fields : List Expr) × AreTokens bytes ts × Parts own d fields (map (seen bytes) ts) [] × (a ≡ compound fields)
 
-whole_sound : ReadsTokens → (own : List (List ℕ)) (d : ℕ) (ts rest : List Lexeme) (a : Expr) (convert : Converts)
+whole_sound : OneReading → (own : List (List ℕ)) (d : ℕ) (ts rest : List Lexeme) (a : Expr) (convert : Converts)
     → ((d : ℕ) (bytes : List ℕ) (a : Expr) → convert d bytes ≡ Some a → ConvertTold own d bytes a)
-    → tree_of (grp.Whole []) (leaf convert) own d ts ≡ Some (a, rest) → Spelled own d a ts rest
+    → tree_of (grp.Whole []) (leaf convert) own d ts ≡ Some (a, rest) → IsWholeFront own d ts a rest
 unfolding Ended
 whole_sound law own d ts rest a convert told h =
-    sound own d 1 (omega arith) ts false (leaf convert) (leaf_told law own convert told) ts (a, rest) d (f.Inside 1 (grp.Whole []) ∷ []) (turn.Wants 1) (refl, refl, refl, sofar_none own d ts) h
+    sound own d 1 (omega arith) ts false (leaf convert) (leaf_told law own convert told) ts (a, rest) d (f.Inside 1 (grp.Whole []) ∷ []) (turn.Wants 1) (refl, refl, refl, sofar_none (Parts own d) ts) h
 
-single_sound : ReadsTokens → (own : List (List ℕ)) (d n : ℕ) → n ≤ 10 → (ts rest : List Lexeme) (a : Expr) (convert : Converts)
+single_sound : OneReading → (own : List (List ℕ)) (d n : ℕ) → n ≤ 10 → (ts rest : List Lexeme) (a : Expr) (convert : Converts)
     → ((d : ℕ) (bytes : List ℕ) (a : Expr) → convert d bytes ≡ Some a → ConvertTold own d bytes a)
-    → run (leaf convert) own ts d (f.Inside n grp.Single ∷ []) (turn.Wants n) ≡ Some (a, rest) → Spells own d n a ts rest
+    → run (leaf convert) own ts d (f.Inside n grp.Single ∷ []) (turn.Wants n) ≡ Some (a, rest) → IsFront own d n ts a rest
 unfolding Ended
 single_sound law own d n low ts rest a convert told h =
     sound own d n low ts true (leaf convert) (leaf_told law own convert told) ts (a, rest) d (f.Inside n grp.Single ∷ []) (turn.Wants n) (refl, refl, refl, refl) h
 
-read_told : ReadsTokens → (own : List (List ℕ)) (d : ℕ) (bytes : List ℕ) (x : Option (List Lexeme)) (a : Expr) (convert : Converts)
+read_told : OneReading → (own : List (List ℕ)) (d : ℕ) (bytes : List ℕ) (x : Option (List Lexeme)) (a : Expr) (convert : Converts)
     → ((d : ℕ) (bytes : List ℕ) (a : Expr) → convert d bytes ≡ Some a → ConvertTold own d bytes a)
     → lexed bytes ≡ x → read_tokens convert own d x ≡ Some a → ConvertTold own d bytes a
 read_told law own d bytes None a convert told is h = cc
 read_told law own d bytes (Some ls) a convert told is h =
     let q = lexed_told law bytes ls is in
-    let p = whole_sound law own d ls [] a convert told (alone_some (tree_of (grp.Whole []) (leaf convert) own d ls) a h) in
+    let p = (whole_sound law own d ls [] a convert told (alone_some (tree_of (grp.Whole []) (leaf convert) own d ls) a h)).0 in
     (q.0, p.0, q.1, subst (λ (x : List Lexeme). Parts own d p.0 x []) q.2 p.1, p.2)
 
-pub converter_told : ReadsTokens → (own : List (List ℕ)) (c d : ℕ) (bytes : List ℕ) (a : Expr) → converter own c d bytes ≡ Some a → ConvertTold own d bytes a
+pub converter_told : OneReading → (own : List (List ℕ)) (c d : ℕ) (bytes : List ℕ) (a : Expr) → converter own c d bytes ≡ Some a → ConvertTold own d bytes a
 unfolding converter
 converter_told law own zero d bytes a h = cc
 converter_told law own (suc c) d bytes a h = read_told law own d bytes (lexed bytes) a (converter own c) (converter_told law own c) refl h
 
-pub reads : ReadsTokens → (own : List (List ℕ)) (c d : ℕ) (ts rest : List Lexeme) (a : Expr) → tree_of (grp.Whole []) (reader own c) own d ts ≡ Some (a, rest) → Spelled own d a ts rest
-reads law own c d ts rest a h = whole_sound law own d ts rest a (converter own c) (converter_told law own c) h
+pub reads_whole : OneReading → (own : List (List ℕ)) (c d : ℕ) (ts rest : List Lexeme) (a : Expr) → tree_of (grp.Whole []) (reader own c) own d ts ≡ Some (a, rest) → IsWholeFront own d ts a rest
+reads_whole law own c d ts rest a h = whole_sound law own d ts rest a (converter own c) (converter_told law own c) h
+
+pub reads : OneReading → (own : List (List ℕ)) (c d : ℕ) (ts rest : List Lexeme) (a : Expr) → tree_of (grp.Whole []) (reader own c) own d ts ≡ Some (a, rest) → Spelled own d a ts rest
+reads law own c d ts rest a h = (reads_whole law own c d ts rest a h).0
 
 -- one expression of a level
-pub reads_single : ReadsTokens → (own : List (List ℕ)) (c d n : ℕ) → n ≤ 10 → (ts rest : List Lexeme) (a : Expr)
+pub reads_front : OneReading → (own : List (List ℕ)) (c d n : ℕ) → n ≤ 10 → (ts rest : List Lexeme) (a : Expr)
+    → run (reader own c) own ts d (f.Inside n grp.Single ∷ []) (turn.Wants n) ≡ Some (a, rest) → IsFront own d n ts a rest
+reads_front law own c d n low ts rest a h = single_sound law own d n low ts rest a (converter own c) (converter_told law own c) h
+
+pub reads_single : OneReading → (own : List (List ℕ)) (c d n : ℕ) → n ≤ 10 → (ts rest : List Lexeme) (a : Expr)
     → run (reader own c) own ts d (f.Inside n grp.Single ∷ []) (turn.Wants n) ≡ Some (a, rest) → Spells own d n a ts rest
-reads_single law own c d n low ts rest a h = single_sound law own d n low ts rest a (converter own c) (converter_told law own c) h
+reads_single law own c d n low ts rest a h = (reads_front law own c d n low ts rest a h).0

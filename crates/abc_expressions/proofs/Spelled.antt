@@ -11,12 +11,12 @@ use Rattle.abc_expressions.specs.Addresses.{SpelledAddress}
 use Rattle.abc_expressions.proofs.AddressLaws.{spelled_address, address_spelled}
 use Rattle.abc_expressions.specs.Grammar.{Spelled}
 use Rattle.abc_expressions.specs.Machine.{alone, reader, tree_of}
-use Rattle.abc_expressions.proofs.ReadsTokens.{ReadsTokens}
+use Rattle.abc_tokens.proofs.Faults.{OneReading}
 use Rattle.abc_expressions.specs.Steps.{Answers}
 use Rattle.abc_expressions.proofs.Complete.{read_as}
 use Rattle.abc_expressions.proofs.Sound.{reads, alone_some}
 
-module _ (law : ReadsTokens) (own : List (List ℕ)) (d : ℕ) (ts : List Lexeme) where
+module _ (law : OneReading) (own : List (List ℕ)) (d : ℕ) (ts : List Lexeme) where
   pub finds : (a : Expr) → Spelled own d a ts [] → (c : ℕ) → d ≤ c → tree_of (grp.Whole []) (reader own c) own d ts ≡ Some (a, [])
   finds a h c le = read_as law own d a ts [] h tt c le
 
@@ -47,7 +47,7 @@ never_high found fault.Memory h e = cc
 
 -- ---- addresses
 
-module _ (law : ReadsTokens) (own : List (List ℕ)) (d : ℕ) (ts : List Lexeme) (x : Result Expr FormulaFault)
+module _ (law : OneReading) (own : List (List ℕ)) (d : ℕ) (ts : List Lexeme) (x : Result Expr FormulaFault)
     (h : (c : ℕ) → d ≤ c → Answers x (alone (tree_of (grp.Whole []) (reader own c) own d ts))) where
   pub no_address : x ≡ Err fault.BadCommand → (a : Expr) → SpelledAddress own d a ts [] → ⊥
   no_address e a p = none law own d ts x h e a (address_spelled own d a ts [] p).0
@@ -63,5 +63,5 @@ module _ (law : ReadsTokens) (own : List (List ℕ)) (d : ℕ) (ts : List Lexeme
       let yes = q.1 in
       cc
 
-pub one_place : ReadsTokens → (own : List (List ℕ)) (d : ℕ) (ts : List Lexeme) (a b : Expr) → SpelledAddress own d a ts [] → SpelledAddress own d b ts [] → a ≡ b
+pub one_place : OneReading → (own : List (List ℕ)) (d : ℕ) (ts : List Lexeme) (a b : Expr) → SpelledAddress own d a ts [] → SpelledAddress own d b ts [] → a ≡ b
 one_place law own d ts a b p q = one law own d ts a b (address_spelled own d a ts [] p).0 (address_spelled own d b ts [] q).0

@@ -1,7 +1,7 @@
 -- The parts of a text that are computed are those that it has.
 use Rattle.std.proofs.Common.{◌≡◌, ◌⊎◌, inl, inr, ℕ, zero, suc, ◌+◌, ◌≤◌, ◌<◌, Bool, true, false, ◌&&◌, List, [], ◌∷◌, ◌++◌, length, drop, Option, Some, None, refl, ap, sym, ◌∙◌, subst, arith, eqb-true, eq-eqb, length-append}
 use Rattle.std.specs.Prelude.{◌==◌, if◌then◌else◌}
-use Rattle.std.proofs.lemmas.Bool.{ne_eqb, eqb-false, cases_lt}
+use Rattle.std.proofs.lemmas.Bool.{ne_eqb, eqb-false, cases_lt, and_parts}
 use Rattle.std.proofs.lemmas.List.{append_assoc, append-nil}
 use Rattle.abc_tokens.specs.declared.kinds.Token.{Token}
 use Rattle.abc_tokens.specs.Bytes.{backquote, begins}
@@ -9,9 +9,8 @@ use Rattle.abc_expressions.specs.declared.texts.Part.{Part}
 use Rattle.abc_expressions.specs.declared.texts.Part.TheVariants as part
 use Rattle.abc_expressions.specs.Texts.{with_character, AreBare, IsConversion, Splits, closing, doubled_quote, doubled_backquote, character, conversion}
 use Rattle.abc_expressions.specs.Machine.{Splitting, has_bare, conversion_from, before_parts, converted, at_quote, at_backquote, split}
-use Rattle.abc_expressions.proofs.ReadsTokens.{ReadsTokens}
+use Rattle.abc_tokens.proofs.Faults.{OneReading}
 use Rattle.abc_expressions.proofs.Leaves.{bare_found, bare_told}
-use Rattle.abc_expressions.proofs.Truth.{both}
 
 -- passing over bytes is dropping them
 pub split_skip : (q : ℕ) (bytes : List ℕ) (n : ℕ) → split q bytes n ≡ split q (drop n bytes) 0
@@ -24,7 +23,7 @@ split_skip q (b ∷ bytes) (suc n) = split_skip q bytes n
 -- ---- where a conversion ends
 
 -- lists that begin alike
-same_front : (xs ys us vs : List ℕ) → xs ++ us ≡ ys ++ vs → length xs ≡ length ys → (xs ≡ ys) × (us ≡ vs)
+pub same_front : (xs ys us vs : List ℕ) → xs ++ us ≡ ys ++ vs → length xs ≡ length ys → (xs ≡ ys) × (us ≡ vs)
 same_front [] [] us vs h e = (refl, h)
 same_front [] (y ∷ ys) us vs h e = absurd (omega arith)
 same_front (x ∷ xs) [] us vs h e = absurd (omega arith)
@@ -41,9 +40,6 @@ drop_front : (xs ys : List ℕ) (y : ℕ) → drop (length xs + 1) (xs ++ y ∷ 
 drop_front [] ys y = refl
 drop_front (x ∷ xs) ys y = let e : length (x ∷ xs) + 1 ≡ suc (length xs + 1) = omega arith in ap (λ n. drop n (x ∷ (xs ++ y ∷ ys))) e ∙ drop_front xs ys y
 
-one_more : (passed : List ℕ) (b : ℕ) → length (passed ++ b ∷ []) ≡ length passed + 1
-one_more passed b = length-append passed (b ∷ [])
-
 -- what a byte gives by the two tests
 abbrev pub table : (q b : ℕ) (bytes : List ℕ) (x y : Bool) → Splitting
 table q b bytes x y = if x then at_quote q bytes (split q bytes) else (if y then at_backquote bytes (split q bytes) else before_parts (with_character b) (split q bytes 0))
@@ -52,14 +48,14 @@ pub by_table : (q b : ℕ) (bytes : List ℕ) (x y : Bool) → (b == q) ≡ x �
 unfolding split
 by_table q b bytes x y ex ey = ap (λ x. table q b bytes x (b == backquote)) ex ∙ ap (table q b bytes x) ey
 
-module _ (law : ReadsTokens) where
+module _ (law : OneReading) where
   found_on : (inner rest : List ℕ) (passed : List ℕ) (b : ℕ) (bytes : List ℕ) → passed ++ b ∷ bytes ≡ inner ++ backquote ∷ rest
       → ((ts : List Token) × AreBare inner ts)
       → ((front more : List ℕ) (ts : List Token) → passed ++ b ∷ bytes ≡ front ++ backquote ∷ more → AreBare front ts → length inner ≤ length front)
       → length passed ≤ length inner → (length passed < length inner → conversion_from (passed ++ b ∷ []) bytes ≡ Some inner)
       → (x : Bool) → ((b == backquote) && has_bare passed) ≡ x → (if x then Some passed else conversion_from (passed ++ b ∷ []) bytes) ≡ Some inner
   found_on inner rest passed b bytes is toks first le ih true e =
-      let p = both (b == backquote) (has_bare passed) e in
+      let p = and_parts (b == backquote) (has_bare passed) e in
       let t = bare_told law passed p.1 in
       let q : passed ++ b ∷ bytes ≡ passed ++ backquote ∷ bytes = ap (λ z. passed ++ z ∷ bytes) (eqb-true b backquote p.0) in
       let same : length passed ≡ length inner = omega (arith, first passed bytes t.0 q t.1, le) in
@@ -89,7 +85,7 @@ module _ (law : ReadsTokens) where
   conversion_found inner rest (b ∷ bytes) passed is toks first le =
       let shift = append_assoc passed (b ∷ []) bytes in
       found_on inner rest passed b bytes is toks first le
-      (λ l. conversion_found inner rest bytes (passed ++ b ∷ []) (shift ∙ is) toks (λ front more ts e t. first front more ts (sym shift ∙ e) t) (omega (arith, one_more passed b)))
+      (λ l. conversion_found inner rest bytes (passed ++ b ∷ []) (shift ∙ is) toks (λ front more ts e t. first front more ts (sym shift ∙ e) t) (omega (arith, length-append passed (b ∷ []))))
       ((b == backquote) && has_bare passed) refl
 
   told_on : (inner passed : List ℕ) (b : ℕ) (bytes : List ℕ)
@@ -99,7 +95,7 @@ module _ (law : ReadsTokens) where
       → (x : Bool) → ((b == backquote) && has_bare passed) ≡ x → (if x then Some passed else conversion_from (passed ++ b ∷ []) bytes) ≡ Some inner
       → (rest : List ℕ) × IsConversion (passed ++ b ∷ bytes) inner rest
   told_on inner passed b bytes first ih true e h =
-      let p = both (b == backquote) (has_bare passed) e in
+      let p = and_parts (b == backquote) (has_bare passed) e in
       let same : passed ≡ inner = cc in
       let q : passed ++ b ∷ bytes ≡ passed ++ backquote ∷ bytes = ap (λ z. passed ++ z ∷ bytes) (eqb-true b backquote p.0) in
       (bytes, subst (λ (z : List ℕ). IsConversion (passed ++ b ∷ bytes) z bytes) same (record { is = q; tokens = bare_told law passed p.1; first = first }))
@@ -126,7 +122,7 @@ module _ (law : ReadsTokens) where
       let shift = append_assoc passed (b ∷ []) bytes in
       told_on inner passed b bytes first
       (λ more_first e.
-      let q = conversion_told inner bytes (passed ++ b ∷ []) (λ front more ts is t. omega (arith, one_more passed b, more_first front more ts (sym shift ∙ is) t)) e in
+      let q = conversion_told inner bytes (passed ++ b ∷ []) (λ front more ts is t. omega (arith, length-append passed (b ∷ []), more_first front more ts (sym shift ∙ is) t)) e in
       (q.0, subst (λ (z : List ℕ). IsConversion z inner q.0) shift q.1))
       ((b == backquote) && has_bare passed) refl h
 

@@ -117,10 +117,6 @@ module _ (leaves : Leaves) (own : List (List ℕ)) (left : List Lexeme) (d : ℕ
   pub ended : left ≡ [] → (k m : ℕ) (a : Expr) → t ≡ turn.Has k m a → finished stack a ≡ all
   ended is k m a e = sym (ap (at_end stack) e) ∙ at_last is
 
-pub none_left : {A : Type 0} (ts : List A) → length ts ≡ 0 → ts ≡ []
-none_left [] h = refl
-none_left (x ∷ xs) h = absurd (omega arith)
-
 pub gives_front : (found all : Found) (rest : List Lexeme) → found ≡ all → rest ≡ [] → (a : Expr) → Gives (Ok a) found → all ≡ Some (a, rest)
 gives_front found all rest e is a h = sym e ∙ h ∙ ap (λ z. Some (a, z)) (sym is)
 

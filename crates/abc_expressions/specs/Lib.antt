@@ -6,6 +6,7 @@ pub mod Texts
 pub mod Grammar
 pub mod Numbers
 pub mod Machine
+pub mod Fronts
 pub mod Steps
 pub mod Splitting
 pub mod Heights

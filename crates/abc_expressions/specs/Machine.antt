@@ -1,5 +1,5 @@
--- The same reading as a machine over the tokens, one at a time: steps of the code. It is proved to find exactly the tree that is spelled; no
--- public clause speaks of it.
+-- The same reading as a machine over the tokens, one at a time: steps of the code. It is proved to find exactly the tree that is spelled; of
+-- the public clauses only `read` of `tree_in_front` speaks of it, for the crate above.
 use Rattle.std.specs.Prelude.{ℕ, zero, suc, ◌+◌, Bool, true, false, ◌&&◌, ◌==◌, nat_le, if◌then◌else◌, List, [], ◌∷◌, ◌++◌, length, map, Option, Some, None}
 use Rattle.std.specs.List.{list_all}
 use Rattle.std.specs.Option.{option_map}

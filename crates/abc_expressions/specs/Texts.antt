@@ -1,9 +1,10 @@
 -- The parts of a text.
-use Rattle.std.specs.Prelude.{◌≡◌, ◌≢◌, ◌≤◌, ◌-◌, ℕ, Bool, true, false, ◌==◌, List, [], ◌∷◌, ◌++◌, length, drop}
+use Rattle.std.specs.Prelude.{◌≡◌, ◌≢◌, ◌≤◌, ◌-◌, ℕ, Bool, true, false, ◌==◌, List, [], ◌∷◌, ◌++◌, length, drop, All}
 use Rattle.std.specs.List.{list_all, slice_get}
 use Rattle.std.specs.Option.{option_map_or}
 use Rattle.abc_tokens.specs.Bytes.{space, backquote, begins}
-use Rattle.abc_tokens.specs.Tokens.{AreTokens}
+use Rattle.abc_tokens.specs.Texts.{Converts}
+use Rattle.abc_tokens.specs.Tokens.{AreTokens, IsSound, has_characters}
 use Rattle.abc_tokens.specs.declared.kinds.Token.{Token}
 use Rattle.abc_expressions.specs.declared.texts.Part.{Part}
 use Rattle.abc_expressions.specs.declared.texts.Part.TheVariants as part
@@ -31,6 +32,10 @@ pub record IsConversion (bytes inner rest : List ℕ) : Type 0 where
   pub is : bytes ≡ inner ++ backquote ∷ rest
   pub tokens : (ts : List Token) × AreBare inner ts
   pub first : (front more : List ℕ) (ts : List Token) → bytes ≡ front ++ backquote ∷ more → AreBare front ts → length inner ≤ length front
+
+-- the same, its tokens read from the front: they end at the backquote, and the numbers among them have values
+abbrev pub ReadsConversion : List ℕ → List ℕ → List ℕ → Type 0
+ReadsConversion bytes inner rest = (bytes ≡ inner ++ backquote ∷ rest) × (has_characters inner ≡ true) × ((ns : List (List ℕ)) × Converts bytes rest ns × All IsSound ns)
 
 -- these bytes are the parts of a text and the quote that ends it
 pub data Splits (q : ℕ) : List ℕ → List Part → Type 0 where

@@ -1,10 +1,11 @@
-//! What the definitions of spellings mean together: no tokens spell two trees, and an address is an expression that has the
-//! form of one.
+//! What the definitions of spellings mean together: no tokens spell two trees, an address is an expression that has the
+//! form of one, and a conversion ends where its tokens do.
 ghost use Rattle.std.specs.Prelude.{◌≡◌, ◌↔◌, ℕ, List, [], true};
 ghost use Rattle.abc_tree.specs.Regular.{is_address};
 ghost use Rattle.abc_tree.specs.declared.formulas.Expr.{Expr};
 ghost use Rattle.abc_expressions.specs.Addresses.{SpelledAddress};
 ghost use Rattle.abc_expressions.specs.Grammar.{Spelled};
+ghost use Rattle.abc_expressions.specs.Texts.{IsConversion, ReadsConversion};
 ghost use Rattle.abc_expressions.specs.declared.lexemes.Lexeme.{Lexeme};
 
 use abc_tokens::one_reading;
@@ -27,3 +28,10 @@ pub fn one_address()
 pub fn address_form()
     ensures { (own : List (List ℕ)) (d : ℕ) (a : Expr) (ts rest : List Lexeme) → SpelledAddress own d a ts rest ↔ (Spelled own d a ts rest × (is_address a ≡ true)) }
 {}
+
+/// A conversion ends at the first backquote with tokens before it, and that is where its tokens, read from the front, end.
+pub fn conversion_end()
+    ensures { (bytes inner rest : List ℕ) → IsConversion bytes inner rest ↔ ReadsConversion bytes inner rest }
+{
+    one_reading();
+}

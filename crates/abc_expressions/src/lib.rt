@@ -4,6 +4,7 @@
 mod addresses;
 mod fault;
 mod frames;
+mod front;
 mod height;
 mod laws;
 mod lexemes;
@@ -17,12 +18,12 @@ mod whole_expression;
 
 pub use addresses::{address, address_names};
 pub use fault::FormulaFault;
-pub use frames::{Frame, Group, Infix, Join, Kind, Operand, Reach, Settled, Step, Turn};
+pub use frames::{Frame, Group, Infix, Join, Kind, Reach, Turn};
+pub use front::tree_in_front;
 pub use height::{a_part_reaches, reaches};
-pub use laws::{address_form, one_address, one_expression};
+pub use laws::{address_form, conversion_end, one_address, one_expression};
 pub use lexemes::{Lexeme, lexemes_of};
 pub use names::{kind_of, sign_of};
 pub use signs::Sign;
-pub use texts::Part;
-pub use tree::{ExpressionFront, tree_in_front};
+pub use tree::ExpressionFront;
 pub use whole_expression::expression;

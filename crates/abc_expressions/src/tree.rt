@@ -52,7 +52,7 @@ fn conversion(
         return Ok(None);
     };
     let whole = Group::Whole(Items::new(alloc));
-    match tree_in_front(alloc, own, tokens.as_slice(), left - 1, 1, whole) {
+    match read_tree(alloc, own, tokens.as_slice(), left - 1, 1, whole) {
         Ok(front) => {
             if front.rest.is_empty() {
                 Ok(Some(front.tree))
@@ -178,10 +178,9 @@ fn advance(
     }
 }
 
-/// The tree in front of the tokens, where so many brackets may open: an expression of this level at least (1 to 10, loosest
-/// first), or, by the group, several with commas between. BadCommand exactly where there is none; never TooMany.
+/// What `tree_in_front` gives, by the machine.
 #[cycle(reading)]
-pub fn tree_in_front<'a>(
+pub(crate) fn read_tree<'a>(
     alloc: Global,
     own: &Names,
     tokens: &'a [Lexeme],

@@ -13,7 +13,7 @@ use crate::FormulaFault;
 use crate::frames::Group;
 use crate::height::is_higher;
 use crate::lexemes::lexemes_of;
-use crate::tree::tree_in_front;
+use crate::tree::read_tree;
 use abc_num::limits::{MOST_BRACKETS, MOST_TREE_HEIGHT};
 use abc_num::{Items, Names};
 use abc_tokens::{Token, one_reading};
@@ -32,7 +32,7 @@ pub(crate) fn whole_tree(
 {
     let lexemes = lexemes_of(alloc, line, toks)?;
     let whole = Group::Whole(Items::new(alloc));
-    let front = tree_in_front(
+    let front = read_tree(
         alloc,
         own,
         lexemes.as_slice(),

@@ -7,7 +7,7 @@ use Rattle.abc_expressions.specs.declared.fault.FormulaFault.TheVariants as faul
 use Rattle.abc_expressions.specs.declared.lexemes.Lexeme.{Lexeme}
 use Rattle.abc_formula.specs.declared.test_frames.Place.TheVariants as place
 use Rattle.abc_expressions.specs.Machine.{reader}
-use Rattle.abc_expressions.proofs.ReadsTokens.{ReadsTokens}
+use Rattle.abc_tokens.proofs.Faults.{OneReading}
 use Rattle.abc_formula.specs.TestGrammar.{Tests}
 use Rattle.abc_formula.specs.TestMachine.{FoundTest, test_alone, test_in}
 use Rattle.abc_formula.specs.TestSteps.{AnswersTest}
@@ -25,7 +25,7 @@ alone_some (Some (x, [])) a h = ap (λ (y : Test). with_none y) (first h)
     first h = cc
 alone_some (Some (x, token ∷ ts)) a h = cc
 
-module _ (law : ReadsTokens) (own : List (List ℕ)) (d : ℕ) (ts : List Lexeme) (x : Result Test FormulaFault)
+module _ (law : OneReading) (own : List (List ℕ)) (d : ℕ) (ts : List Lexeme) (x : Result Test FormulaFault)
     (h : (c n : ℕ) → d ≤ c → length ts ≤ n → AnswersTest x (test_alone (test_in (reader own c) own n place.Whole d ts))) where
   abbrev here : Option Test
   here = test_alone (test_in (reader own d) own (length ts) place.Whole d ts)

@@ -30,7 +30,7 @@ use Rattle.abc_formula.specs.declared.test_frames.Front.TheVariants as front
 use Rattle.abc_expressions.specs.Operators.{kind_of, infix_by, leftward}
 use Rattle.abc_expressions.specs.Grammar.{Spells, own_name}
 use Rattle.abc_expressions.specs.Machine.{reader, reach_by, reach, sign_of}
-use Rattle.abc_expressions.proofs.ReadsTokens.{ReadsTokens}
+use Rattle.abc_tokens.proofs.Faults.{OneReading}
 use Rattle.abc_formula.specs.TestGrammar.{is_keyword, quantifier_of, relation_of, membership_of, membership_by, link, is_round, gathered, takes_and, takes_or, Binds, last_name, more_names, BindsPart, one_name, round_names, Relates, last_link, more_links, Tests, alone, negated, quantified, both, either, Parted, round, chain, member, call, refinement}
 use Rattle.abc_formula.specs.TestMachine.{FoundTest, Groups, onward, name_read, behind_name, names_end, names_in, expression_of, FoundLinks, linked, links_by, links_in, lone_by, before, lone, chained, contained, part_by, part_of, Reads, closed, rounded, tight, wrapped, from_keyword, has_test, front_by, front_of, behind_of, joined, from_front, test_in}
 use Rattle.abc_formula.proofs.TestParts.{shorter, front_expression, Ends, expression_found, keyword_is, end_keyword, end_by_relation}
@@ -254,7 +254,7 @@ begins_link : {own : List (List ℕ)} {d : ℕ} {links : List Link} {ts rest : L
 begins_link {own = own} (last_link {o = o} {t = token} h p) = end_by_relation own token o h
 begins_link {own = own} (more_links {o = o} {t = token} h p more) = end_by_relation own token o h
 
-module _ (law : ReadsTokens) (own : List (List ℕ)) (c : ℕ) where
+module _ (law : OneReading) (own : List (List ℕ)) (c : ℕ) where
   abbrev links_at : ℕ → ℕ → List Lexeme → FoundLinks
   links_at = links_in (reader own c) own
 
@@ -373,7 +373,7 @@ test_or : Test → FoundTest → Test
 test_or x None = x
 test_or x (Some found) = found.0
 
-pub one_reading : ReadsTokens → (own : List (List ℕ)) (d : ℕ) (a c : Test) (ts : List Lexeme) → Tests own d place.Whole a ts [] → Tests own d place.Whole c ts [] → a ≡ c
+pub one_reading : OneReading → (own : List (List ℕ)) (d : ℕ) (a c : Test) (ts : List Lexeme) → Tests own d place.Whole a ts [] → Tests own d place.Whole c ts [] → a ≡ c
 unfolding test_or
 one_reading law own d a c ts p q =
     ap (test_or a) (sym (complete_test law own d p (length ts) (omega arith) (omega arith) tt) ∙ complete_test law own d q (length ts) (omega arith) (omega arith) tt)

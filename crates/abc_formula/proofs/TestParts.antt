@@ -1,7 +1,7 @@
 -- What tests are told of expressions: where one begins, where it ends, and that it has a token.
 use Rattle.std.proofs.Common.{◌≡◌, ℕ, ◌≤◌, ◌<◌, true, List, [], ◌∷◌, Some, refl, ap, arith, sym, ◌∙◌, subst, length}
+use Rattle.std.proofs.lemmas.List.Elements.{All-tail}
 use Rattle.std.specs.Prelude.{All}
-use Rattle.abc_expressions.proofs.TokenParts.{all_tail}
 use Rattle.abc_num.specs.Text.{text_eq}
 use Rattle.abc_num.proofs.Texts.{text_eq-Decides}
 use Rattle.abc_tree.specs.declared.formulas.Expr.{Expr}
@@ -23,7 +23,7 @@ use Rattle.abc_expressions.specs.Lexemes.{IsSpelled}
 use Rattle.abc_expressions.specs.Operators.{lead}
 use Rattle.abc_expressions.specs.Grammar.{Spells, number, text, name, call, before, between, select, round, empty, list, table, Parts, one, more, Filler, single, range, Fills, one_fill, more_fills, Entry, entry, Pairs, one_pair, more_pairs}
 use Rattle.abc_expressions.specs.Machine.{Leaves, reader, reach, within, taken, popped, finished, run}
-use Rattle.abc_expressions.proofs.ReadsTokens.{ReadsTokens}
+use Rattle.abc_tokens.proofs.Faults.{OneReading}
 use Rattle.abc_formula.specs.TestGrammar.{is_keyword, relation_of, relation_by}
 use Rattle.abc_formula.specs.TestMachine.{expression_of, front_of}
 use Rattle.abc_expressions.proofs.Levels.{grasp, Follows}
@@ -103,7 +103,7 @@ unfolding run popped finished
 stops_here leaves own d n a [] e = refl
 stops_here leaves own d n a (token ∷ ts) e = ap (λ x. taken (within x n n) (run leaves own ts) d (f.Inside n g.Single ∷ []) n a (Some (a, token ∷ ts))) e
 
-pub expression_found : (law : ReadsTokens) {own : List (List ℕ)} {d n : ℕ} {a : Expr} {ts rest : List Lexeme} → Spells own d n a ts rest → (c : ℕ) → d ≤ c → Ends own rest
+pub expression_found : (law : OneReading) {own : List (List ℕ)} {d n : ℕ} {a : Expr} {ts rest : List Lexeme} → Spells own d n a ts rest → (c : ℕ) → d ≤ c → Ends own rest
     → expression_of (reader own c) own n d ts ≡ Some (a, rest)
 expression_found law {own = own} {d = d} {n = n} {a = a} {rest = rest} p c deep e =
     complete law p c n (f.Inside n g.Single ∷ []) deep (omega arith) (follows_end own n rest e) ∙ stops_here (reader own c) own d n a rest e
@@ -142,33 +142,33 @@ end_by_relation own t.Other o h = cc
 
 mutual
   pub all_behind : {own : List (List ℕ)} {d n : ℕ} {a : Expr} {ts rest : List Lexeme} → Spells own d n a ts rest → All IsSpelled ts → All IsSpelled rest
-  all_behind (number h e) all = all_tail IsSpelled _ _ all
-  all_behind (text h e x) all = all_tail IsSpelled _ _ all
-  all_behind (name h e) all = all_tail IsSpelled _ _ all
-  all_behind (call h e w) all = all_tail IsSpelled _ _ all
-  all_behind (before h e p) all = all_behind p (all_tail IsSpelled _ _ all)
-  all_behind (between h e p q) all = all_behind q (all_tail IsSpelled _ _ (all_behind p all))
-  all_behind (select h p q) all = all_tail IsSpelled _ _ (all_behind_parts q (all_tail IsSpelled _ _ (all_behind p all)))
-  all_behind (round h p) all = all_tail IsSpelled _ _ (all_behind_parts p (all_tail IsSpelled _ _ all))
-  all_behind (empty h) all = all_tail IsSpelled (t.Sign s.Unbrace) _ (all_tail IsSpelled _ (t.Sign s.Unbrace ∷ _) all)
-  all_behind (list h p) all = all_tail IsSpelled _ _ (all_behind_fills p (all_tail IsSpelled _ _ all))
-  all_behind (table h p) all = all_tail IsSpelled _ _ (all_behind_pairs p (all_tail IsSpelled _ _ all))
+  all_behind (number h e) all = All-tail IsSpelled _ _ all
+  all_behind (text h e x) all = All-tail IsSpelled _ _ all
+  all_behind (name h e) all = All-tail IsSpelled _ _ all
+  all_behind (call h e w) all = All-tail IsSpelled _ _ all
+  all_behind (before h e p) all = all_behind p (All-tail IsSpelled _ _ all)
+  all_behind (between h e p q) all = all_behind q (All-tail IsSpelled _ _ (all_behind p all))
+  all_behind (select h p q) all = All-tail IsSpelled _ _ (all_behind_parts q (All-tail IsSpelled _ _ (all_behind p all)))
+  all_behind (round h p) all = All-tail IsSpelled _ _ (all_behind_parts p (All-tail IsSpelled _ _ all))
+  all_behind (empty h) all = All-tail IsSpelled (t.Sign s.Unbrace) _ (All-tail IsSpelled _ (t.Sign s.Unbrace ∷ _) all)
+  all_behind (list h p) all = All-tail IsSpelled _ _ (all_behind_fills p (All-tail IsSpelled _ _ all))
+  all_behind (table h p) all = All-tail IsSpelled _ _ (all_behind_pairs p (All-tail IsSpelled _ _ all))
 
   all_behind_parts : {own : List (List ℕ)} {d : ℕ} {parts : List Expr} {ts rest : List Lexeme} → Parts own d parts ts rest → All IsSpelled ts → All IsSpelled rest
   all_behind_parts (one p) all = all_behind p all
-  all_behind_parts (more p q) all = all_behind_parts q (all_tail IsSpelled _ _ (all_behind p all))
+  all_behind_parts (more p q) all = all_behind_parts q (All-tail IsSpelled _ _ (all_behind p all))
 
   all_behind_filler : {own : List (List ℕ)} {d : ℕ} {fill : Fill} {ts rest : List Lexeme} → Filler own d fill ts rest → All IsSpelled ts → All IsSpelled rest
   all_behind_filler (single p) all = all_behind p all
-  all_behind_filler (range p q) all = all_behind q (all_tail IsSpelled _ _ (all_behind p all))
+  all_behind_filler (range p q) all = all_behind q (All-tail IsSpelled _ _ (all_behind p all))
 
   all_behind_fills : {own : List (List ℕ)} {d : ℕ} {fills : List Fill} {ts rest : List Lexeme} → Fills own d fills ts rest → All IsSpelled ts → All IsSpelled rest
   all_behind_fills (one_fill p) all = all_behind_filler p all
-  all_behind_fills (more_fills p q) all = all_behind_fills q (all_tail IsSpelled _ _ (all_behind_filler p all))
+  all_behind_fills (more_fills p q) all = all_behind_fills q (All-tail IsSpelled _ _ (all_behind_filler p all))
 
   all_behind_entry : {own : List (List ℕ)} {d : ℕ} {pair : Pair} {ts rest : List Lexeme} → Entry own d pair ts rest → All IsSpelled ts → All IsSpelled rest
-  all_behind_entry (entry p q) all = all_behind q (all_tail IsSpelled (t.Sign s.Colon) _ (all_tail IsSpelled _ (t.Sign s.Colon ∷ _) (all_behind_parts p (all_tail IsSpelled _ _ all))))
+  all_behind_entry (entry p q) all = all_behind q (All-tail IsSpelled (t.Sign s.Colon) _ (All-tail IsSpelled _ (t.Sign s.Colon ∷ _) (all_behind_parts p (All-tail IsSpelled _ _ all))))
 
   all_behind_pairs : {own : List (List ℕ)} {d : ℕ} {pairs : List Pair} {ts rest : List Lexeme} → Pairs own d pairs ts rest → All IsSpelled ts → All IsSpelled rest
   all_behind_pairs (one_pair p) all = all_behind_entry p all
-  all_behind_pairs (more_pairs p q) all = all_behind_pairs q (all_tail IsSpelled _ _ (all_behind_entry p all))
+  all_behind_pairs (more_pairs p q) all = all_behind_pairs q (All-tail IsSpelled _ _ (all_behind_entry p all))

@@ -28,7 +28,7 @@ use Rattle.abc_formula.specs.declared.test_frames.Behind.TheVariants as behind
 use Rattle.abc_expressions.specs.Operators.{kind_of}
 use Rattle.abc_expressions.specs.Grammar.{Spells}
 use Rattle.abc_expressions.specs.Machine.{Found, reader, sign_of}
-use Rattle.abc_expressions.proofs.ReadsTokens.{ReadsTokens}
+use Rattle.abc_tokens.proofs.Faults.{OneReading}
 use Rattle.abc_formula.specs.TestGrammar.{is_keyword, quantifier_of, relation_of, membership_of, predicate, link, is_round, gathered, takes_and, takes_or, Binds, last_name, more_names, BindsPart, one_name, round_names, Relates, last_link, more_links, Tests, alone, negated, quantified, both, either, Parted, round, chain, member, call, refinement}
 use Rattle.abc_formula.specs.TestMachine.{FoundTest, Groups, onward, name_read, at_names_sign, at_name, behind_name, names_end, names_in, expression_of, FoundLinks, linked, links_by, links_in, lone_by, before, lone, chained, contained, part_by, part_of, Reads, closed, rounded, tight, wrapped, from_keyword, has_test, quantifies, front_by, behind_of, rest_of, joined, from_front, test_in}
 use Rattle.abc_expressions.proofs.Sound.{reads_single}
@@ -210,7 +210,7 @@ closed_told (Some (a, t.Keyword x ∷ rest)) result h = cc
 closed_told (Some (a, t.Text bytes ∷ rest)) result h = cc
 closed_told (Some (a, t.Other ∷ rest)) result h = cc
 
-module _ (law : ReadsTokens) (own : List (List ℕ)) (c : ℕ) where
+module _ (law : OneReading) (own : List (List ℕ)) (c : ℕ) where
   expression_told : (d n : ℕ) → n ≤ 10 → (ts rest : List Lexeme) (a : Expr) → expression_of (reader own c) own n d ts ≡ Some (a, rest) → Spells own d n a ts rest
   expression_told d n low ts rest a h = reads_single law own c d n low ts rest a h
 
@@ -387,6 +387,6 @@ module _ (law : ReadsTokens) (own : List (List ℕ)) (c : ℕ) where
   test_told (suc n) p d [] result g = tight_joined n (test_told n) p d [] result g
   test_told (suc n) p d (token ∷ ts) result g = front_told n (test_told n) p d token ts result (is_keyword (codes "NOT") token) (quantifier_of token) refl refl g
 
-pub reads_test : ReadsTokens → (own : List (List ℕ)) (c n : ℕ) (p : Place) (d : ℕ) (ts rest : List Lexeme) (a : Test) → test_in (reader own c) own n p d ts ≡ Some (a, rest)
+pub reads_test : OneReading → (own : List (List ℕ)) (c n : ℕ) (p : Place) (d : ℕ) (ts rest : List Lexeme) (a : Test) → test_in (reader own c) own n p d ts ≡ Some (a, rest)
     → Tests own d p a ts rest
 reads_test law own c n p d ts rest a g = let result : Test × List Lexeme = (a, rest) in test_told law own c n p d ts result g

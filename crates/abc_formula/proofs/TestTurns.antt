@@ -1,5 +1,6 @@
 -- What the inner functions for tests keep.
 use Rattle.std.proofs.Common.{◌≡◌, ◌≢◌, ◌-◌, drop, take, ℕ, zero, suc, ◌≤◌, ◌<◌, List, [], ◌∷◌, ◌++◌, length, Some, None, Ok, Err, refl, ap, sym, ◌∙◌, subst, arith}
+use Rattle.std.proofs.lemmas.List.Elements.{All-tail}
 use Rattle.std.specs.Prelude.{Result, All, IfOk}
 use Rattle.abc_expressions.specs.declared.fault.FormulaFault.{FormulaFault}
 use Rattle.abc_expressions.specs.declared.fault.FormulaFault.TheVariants as fault
@@ -12,7 +13,7 @@ use Rattle.abc_tree.specs.declared.formulas.Link.{Link}
 use Rattle.abc_tree.specs.declared.operations.Op.{Op}
 use Rattle.std.proofs.lemmas.List.{append_assoc, append-nil, take_all}
 use Rattle.abc_expressions.specs.Machine.{Leaves, reader}
-use Rattle.abc_expressions.proofs.ReadsTokens.{ReadsTokens}
+use Rattle.abc_tokens.proofs.Faults.{OneReading}
 use Rattle.abc_expressions.specs.Steps.{Finds}
 use Rattle.abc_formula.specs.TestGrammar.{relation_of, link}
 use Rattle.abc_formula.specs.declared.testing.Advance.{Advance}
@@ -27,14 +28,13 @@ use Rattle.abc_expressions.specs.declared.signs.Sign.TheVariants as s
 use Rattle.abc_expressions.specs.declared.lexemes.Lexeme.TheVariants as t
 use Rattle.abc_formula.specs.declared.test_frames.Behind.TheVariants as behind
 use Rattle.abc_formula.specs.declared.test_frames.Front.TheVariants as front
-use Rattle.abc_expressions.proofs.TokenParts.{all_tail}
 use Rattle.abc_formula.specs.TestMachine.{FoundTest, Reads, rest_of, wrapped, joined, behind_of, quantifies, tight, closed, rounded, made, front_of, from_front, test_in, onward, expression_of, FoundLinks, linked, links_by, links_in}
 use Rattle.abc_formula.specs.TestSteps.{Fewer, FindsLinks, FindsTest, Advances, Begins, folded, fold_test, wrapped_by, behind_close}
 use Rattle.abc_expressions.proofs.Sound.{reads_single}
 use Rattle.abc_formula.proofs.TestParts.{shorter, all_behind}
 
 -- the tokens behind one expression are fewer
-pub single_rest : ReadsTokens → (own : List (List ℕ)) (left least : ℕ) (tokens : List Lexeme) (result : Result ExpressionFront FormulaFault) → All IsSpelled tokens → least ≤ 10
+pub single_rest : OneReading → (own : List (List ℕ)) (left least : ℕ) (tokens : List Lexeme) (result : Result ExpressionFront FormulaFault) → All IsSpelled tokens → least ≤ 10
     → ((c : ℕ) → left ≤ c → Finds result (expression_of (reader own c) own least left tokens)) → IfOk result (λ front. Fewer front.rest.now tokens)
 single_rest law own left least tokens (Ok front) all low finds =
     let p = reads_single law own left left least low tokens front.rest.now front.tree (finds left (omega arith)) in (shorter p, all_behind p all)
@@ -166,12 +166,12 @@ module _ (leaves : Leaves) (own : List (List ℕ)) (d n : ℕ) (tokens : List Le
 
 pub rest_is : (ts us : List Lexeme) → us ≡ rest_of ts → All IsSpelled ts → (length us ≤ length ts) × All IsSpelled us
 rest_is [] us same all = let l : length us ≡ 0 = ap length same in (omega (arith, l), subst (All IsSpelled) (sym same) all)
-rest_is (token ∷ ts) us same all = let l : length us ≡ length ts = ap length same in (omega (arith, l), subst (All IsSpelled) (sym same) (all_tail IsSpelled token ts all))
+rest_is (token ∷ ts) us same all = let l : length us ≡ length ts = ap length same in (omega (arith, l), subst (All IsSpelled) (sym same) (All-tail IsSpelled token ts all))
 
 -- NOT and a quantifier are tokens
 pub fewer_behind : (ts us : List Lexeme) (x : Front) → us ≡ rest_of ts → front_of ts ≡ x → x ≢ front.Tight → All IsSpelled ts → Fewer us ts
 fewer_behind [] us x same h n all = absurd (n (sym h))
-fewer_behind (token ∷ ts) us x same h n all = let l : length us ≡ length ts = ap length same in (omega (arith, l), subst (All IsSpelled) (sym same) (all_tail IsSpelled token ts all))
+fewer_behind (token ∷ ts) us x same h n all = let l : length us ≡ length ts = ap length same in (omega (arith, l), subst (All IsSpelled) (sym same) (All-tail IsSpelled token ts all))
 
 pub folded_some : (frames : List TestFrame) (a : Test) (ts : List Lexeme) (found : FoundTest) → found ≡ Some (a, ts) → folded frames found ≡ Some (fold_test frames a, ts)
 folded_some [] a ts found h = h

@@ -24,27 +24,25 @@ pub struct KeptFrame {
 
 impl Model for Frames {
     ghost use Rattle.std.specs.Prelude.{List, ℕ};
-    ghost use Rattle.std.specs.Coded.{coded_list, coded×, coded_ℕ};
+    ghost use Rattle.std.specs.Coded.{coded_list};
     ghost use Rattle.abc_value.specs.Tree.{Tree};
-    ghost use Rattle.abc_value.specs.Code.{coded_tree};
-    ghost use Rattle.abc_frames.specs.View.{frames_of};
+    ghost use Rattle.abc_frames.specs.View.{coded_frame, frames_of};
 
     ghost Value = { List (List (ℕ × Tree)) };
 
-    ghost coded = { coded_list (coded_list (coded× coded_ℕ coded_tree)) };
+    ghost coded = { coded_list coded_frame };
 
     ghost view = { λ f. frames_of f.frames.items };
 }
 
 impl Model for KeptFrame {
     ghost use Rattle.std.specs.Prelude.{List, ℕ};
-    ghost use Rattle.std.specs.Coded.{coded_list, coded×, coded_ℕ};
     ghost use Rattle.abc_value.specs.Tree.{Tree};
-    ghost use Rattle.abc_value.specs.Code.{coded_tree};
+    ghost use Rattle.abc_frames.specs.View.{coded_frame};
 
     ghost Value = { List (ℕ × Tree) };
 
-    ghost coded = { coded_list (coded× coded_ℕ coded_tree) };
+    ghost coded = { coded_frame };
 
     ghost view = { λ k. k.values.entries };
 }

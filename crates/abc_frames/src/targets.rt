@@ -34,26 +34,24 @@ pub struct TargetChange {
 
 impl Model for Targets {
     ghost use Rattle.std.specs.Prelude.{List, ℕ};
-    ghost use Rattle.std.specs.Coded.{coded_list, coded×, coded_ℕ};
     ghost use Rattle.abc_value.specs.Tree.{Tree};
-    ghost use Rattle.abc_value.specs.Code.{coded_tree};
+    ghost use Rattle.abc_frames.specs.View.{coded_targets};
 
     ghost Value = { List (List ℕ × Tree) };
 
-    ghost coded = { coded_list (coded× (coded_list coded_ℕ) coded_tree) };
+    ghost coded = { coded_targets };
 
     ghost view = { λ t. t.values.entries };
 }
 
 impl Model for Kept {
     ghost use Rattle.std.specs.Prelude.{List, ℕ};
-    ghost use Rattle.std.specs.Coded.{coded_list, coded×, coded_ℕ};
     ghost use Rattle.abc_value.specs.Tree.{Tree};
-    ghost use Rattle.abc_value.specs.Code.{coded_tree};
+    ghost use Rattle.abc_frames.specs.View.{coded_targets};
 
     ghost Value = { List (List ℕ × Tree) };
 
-    ghost coded = { coded_list (coded× (coded_list coded_ℕ) coded_tree) };
+    ghost coded = { coded_targets };
 
     ghost view = { λ k. k.values.entries };
 }

@@ -17,21 +17,15 @@ line_of line = record { indent = indentation line.bytes; text = text_of line.byt
 
 abbrev pub is_how_to : First → Bool
 is_how_to first.HowTo = true
-is_how_to first.Heading = false
-is_how_to first.Environment = false
-is_how_to first.Other = false
+is_how_to _ = false
 
 abbrev pub is_heading : First → Bool
-is_heading first.HowTo = false
 is_heading first.Heading = true
-is_heading first.Environment = false
-is_heading first.Other = false
+is_heading _ = false
 
 abbrev pub is_environment : First → Bool
-is_environment first.HowTo = false
-is_environment first.Heading = false
 is_environment first.Environment = true
-is_environment first.Other = false
+is_environment _ = false
 
 -- Spaces, tabs and a comment alone; such a line means nothing. A line that had more bytes is never blank.
 abbrev pub is_blank : RawLine → Bool

@@ -18,7 +18,7 @@ digits_value-append (c ∷ cs) ys =
     let p : 10 ^ length (cs ++ ys) ≡ 10 ^ length cs * 10 ^ length ys = ap (λ n. 10 ^ n) (length-append cs ys) ∙ pow-add 10 (length cs) (length ys) in
     omega (arith, digits_value-append cs ys, ap (λ x. (c - 48) * x) p)
 
-one_digit : (c : ℕ) → digits_value (c ∷ []) ≡ c - 48
+pub one_digit : (c : ℕ) → digits_value (c ∷ []) ≡ c - 48
 one_digit c = omega (arith, ap (λ x. (c - 48) * x) (pow-zero 10))
 
 -- one digit more

@@ -68,7 +68,7 @@ coprime_more w a b i = (
   λ d p q. i.2 d ((dvd-add_iff_right d (dvd_trans d q (dvd-mul_left b w))).1 p) q,
 )
 
-factor_positive : (x g b : ℕ) → x * g ≡ b → 0 < b → 0 < x
+pub factor_positive : (x g b : ℕ) → x * g ≡ b → 0 < b → 0 < x
 factor_positive zero g b e h = absurd (omega arith)
 factor_positive (suc x) g b e h = omega arith
 

@@ -2,6 +2,7 @@
 use Rattle.std.proofs.Common.{◌≡◌, ◌≢◌, ℕ, suc, zero, ◌+◌, ◌-◌, ◌*◌, ◌/◌, ◌%◌, ◌<◌, refl, sym, ap, ◌∙◌, arith, ℤ, pos, negsuc, neg_ℤ, ◌*ℤ◌, ◌-ℤ◌, Bool, true, false}
 use mathlib.Core.Bool.{not, beq}
 use Rattle.std.proofs.lemmas.Int.{ints}
+use Rattle.std.proofs.Math.IntN.{*ℤ-negsuc}
 use Rattle.std.proofs.lemmas.Nat.{div-mul-add}
 use Rattle.std.proofs.Math.Nat.{div-add-mod, mod-lt}
 use Rattle.abc_num.specs.Number.{signed}
@@ -53,14 +54,9 @@ mod-negative a b h e =
     let sizes : (a / b + 1) * b ≡ a + (b - a % b) = omega (arith, whole) in
     ap (λ f. signed true a -ℤ f *ℤ pos b) (floor-below a b h e) ∙ ap (λ z. signed true a -ℤ z) (signed-*ℤ true (a / b + 1) b ∙ ap (signed true) sizes) ∙ (let k : signed true a -ℤ signed true (a + (b - a % b)) ≡ pos (b - a % b) = omega (arith, ints) in k)
 
-mul-negsuc : (f : ℤ) (k : ℕ) → f *ℤ negsuc k ≡ neg_ℤ (f *ℤ pos (suc k))
-mul-negsuc (pos zero) k = omega (arith, ints)
-mul-negsuc (pos (suc n)) k = omega (arith, ints)
-mul-negsuc (negsuc n) k = omega (arith, ints)
-
 -- both signs turned
 mod-turned : (a : ℤ) (k : ℕ) → floor_mod a (negsuc k) ≡ neg_ℤ (floor_mod (neg_ℤ a) (pos (suc k)))
-mod-turned a k = let e = mul-negsuc (floor_of (neg_ℤ a) (suc k)) k in omega (arith, ints, e)
+mod-turned a k = let e = *ℤ-negsuc (floor_of (neg_ℤ a) (suc k)) k in omega (arith, ints, e)
 
 pub floor_mod-zero : (s t : Bool) (a b : ℕ) → 0 < b → a % b ≡ 0 → floor_mod (signed s a) (signed t b) ≡ signed t 0
 floor_mod-zero s false a b h e = mod-whole s a b h e

@@ -17,4 +17,5 @@ pub mod Places
 pub mod Tens
 pub mod Spelling
 pub mod Tails
+pub mod Parts
 pub mod Texts

@@ -44,10 +44,6 @@ number_lowest n (inl h) =
     (subst P (sym h.0) (one-dvd _, one-dvd 1, λ d p q. q), omega (arith, h.0))
 number_lowest n (inr h) = (h.3, omega (arith, h.0))
 
-pub factor_pos : (x g b : ℕ) → x * g ≡ b → 0 < b → 0 < x
-factor_pos zero g b e h = absurd (omega arith)
-factor_pos (suc x) g b e h = omega arith
-
 -- the sizes of a number that has the value x / y
 pub sizes : (s : Bool) (x y : ℕ) (n : Fraction) → Equals (signed s x) (pos y) n → unsigned_abs n.numerator * y ≡ x * n.denominator
 sizes s x y n e =

@@ -2,6 +2,7 @@
 use Rattle.std.proofs.Common.{◌≡◌, ◌≢◌, ℕ, suc, zero, ◌+◌, ◌-◌, ◌*◌, ◌/◌, ◌%◌, ◌<◌, ◌≤◌, ◌^◌, refl, sym, ap, ◌∙◌, subst, arith, ℤ, pos, negsuc, neg_ℤ, ◌*ℤ◌, ◌<ℤ◌, Bool, true, false, inl, inr, ◌⊎◌, Result, Err, ◌==◌}
 use Rattle.std.specs.Prelude.{unsigned_abs}
 use Rattle.std.specs.Int.{IsGcd, ◌∣◌, int_pow}
+use Rattle.std.proofs.lemmas.Grind.{pow_more}
 use Rattle.std.proofs.lemmas.Int.{ints}
 use Rattle.std.proofs.lemmas.Bool.{cases_eq}
 use Rattle.std.proofs.lemmas.Bool.Decides.{nat_tests}
@@ -18,9 +19,6 @@ use Rattle.abc_num.proofs.LowestTerms.{top_too_great, bottom_too_great}
 use Rattle.abc_num.proofs.Ratios.{IsRatio-same, IsRatio-not_zero, IsRatio-not_part, pos_ne}
 use Rattle.abc_num.proofs.Signs.{signed-product, signed_zero}
 
-pub power-more : (b i : ℕ) → b ^ (i + 1) ≡ b ^ i * b
-power-more b i = ap (λ n. b ^ n) (let k : i + 1 ≡ suc i = omega arith in k) ∙ pow-suc b i
-
 -- 0 and 1 stay as they are
 pub power-small : (b e : ℕ) → b < 2 → e ≢ 0 → b ^ e ≡ b
 power-small b zero h n = absurd (n refl)
@@ -34,7 +32,7 @@ power-small (suc (suc b)) (suc e) h n = absurd (omega arith)
 
 -- a power is no greater than one with a greater exponent
 pub power-le : (b i e : ℕ) → 0 < b → i < e → b ^ i * b ≤ b ^ e
-power-le b i e h l = let p = pow-le-pow_right h (let k : i + 1 ≤ e = omega arith in k) in omega (arith, p, power-more b i)
+power-le b i e h l = let p = pow-le-pow_right h (let k : i + 1 ≤ e = omega arith in k) in omega (arith, p, pow_more b i)
 
 coprime_power_left : (a b e : ℕ) → IsGcd a b 1 → IsGcd (a ^ e) b 1
 coprime_power_left a b zero i = subst (λ z. IsGcd z b 1) (sym (pow-zero a)) (IsGcd-swap b 1 1 (coprime_one b))

@@ -7,8 +7,8 @@ use Rattle.abc_num.specs.declared.number.NumFault.{NumFault}
 use Rattle.abc_num.specs.Number.{Fraction, signed}
 use Rattle.abc_num.specs.Ratio.{IsRatio, IsNoNumber}
 use Rattle.abc_num.proofs.Integers.{same_value}
-use Rattle.abc_num.proofs.Divisors.{coprime_parts, coprime_mul}
-use Rattle.abc_num.proofs.LowestTerms.{parts_coprime, divisor_pos, factor_pos, signed-*ℤ, top_too_great, bottom_too_great}
+use Rattle.abc_num.proofs.Divisors.{coprime_parts, coprime_mul, factor_positive}
+use Rattle.abc_num.proofs.LowestTerms.{parts_coprime, divisor_pos, signed-*ℤ, top_too_great, bottom_too_great}
 use Rattle.abc_num.proofs.Ratios.{IsRatio-scaled, pos_ne, product_pos}
 
 shuffle : (x y u v l r : ℕ) → (x * y) * ((u * r) * (v * l)) ≡ ((x * l) * (y * r)) * (u * v)
@@ -46,7 +46,7 @@ module _ (a b c d l r : ℕ) (one_ab : IsGcd a b 1) (one_cd : IsGcd c d 1) (left
   divisors_pos = (divisor_pos a d l pos_d left, divisor_pos c b r pos_b right)
 
   pub bottom_pos : 0 < b / r * (d / l)
-  bottom_pos = product_pos (b / r) (d / l) (factor_pos (b / r) r b (div-mul_cancel r right.1) pos_b) (factor_pos (d / l) l d (div-mul_cancel l left.1) pos_d)
+  bottom_pos = product_pos (b / r) (d / l) (factor_positive (b / r) r b (div-mul_cancel r right.1) pos_b) (factor_positive (d / l) l d (div-mul_cancel l left.1) pos_d)
 
   pub product_ratio : (s : Bool) (t : Result Fraction NumFault) → IsRatio (signed s (a / l * (c / r))) (pos (b / r * (d / l))) t → IsRatio (signed s (a * c)) (pos (b * d)) t
   product_ratio s t = IsRatio-scaled s (a / l * (c / r)) (b / r * (d / l)) (a * c) (b * d) t bottom_pos (product_pos b d pos_b pos_d) product_equal

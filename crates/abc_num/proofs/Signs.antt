@@ -47,7 +47,7 @@ quotient_sides s t a b c d =
     ∙ sym (signed-*ℤ s (a * d) (b * c))
     ∙ ap (λ z. z *ℤ pos (b * c)) (sym (signed-*ℤ s a d))
 
-factor_ne : (z : ℤ) (b : ℕ) → z ≢ pos 0 → 0 < b → z *ℤ pos b ≢ pos 0
+pub factor_ne : (z : ℤ) (b : ℕ) → z ≢ pos 0 → 0 < b → z *ℤ pos b ≢ pos 0
 factor_ne (pos zero) b h p = absurd (h refl)
 factor_ne (pos (suc n)) b h p = pos_ne (suc n * b) (product_pos (suc n) b (omega arith) p)
 factor_ne (negsuc n) zero h p = absurd (omega arith)

@@ -3,30 +3,27 @@ use Rattle.std.proofs.Common.{◌≡◌, ℕ, suc, ◌<◌, List, [], ◌∷◌,
 use Rattle.std.specs.Prelude.{All}
 use Rattle.std.proofs.lemmas.Bool.Decides.{nat_tests}
 use Rattle.std.proofs.lemmas.List.{take-append-drop}
-use Rattle.std.proofs.Common.{false}
+use Rattle.std.proofs.lemmas.List.Elements.{All-tail}
 use Rattle.abc_num.specs.Literal.{point, IsDigit, IsDigits, IsNumberToken, in_front, behind}
-
-later : (c : ℕ) (cs : List ℕ) → All IsDigit (c ∷ cs) → All IsDigit cs
-later c cs a k d h = a (suc k) d (omega arith)
 
 no_point : (c : ℕ) (cs : List ℕ) → All IsDigit (c ∷ cs) → nat_eq c point ≡ false
 no_point c cs a = let d = a 0 0 (omega arith) in grind (arith, nat_tests)
 
 pub in_front-digits : (b : List ℕ) → All IsDigit b → in_front b ≡ b
 in_front-digits [] a = refl
-in_front-digits (c ∷ cs) a = rw (no_point c cs a) (ap (λ z. c ∷ z) (in_front-digits cs (later c cs a)))
+in_front-digits (c ∷ cs) a = rw (no_point c cs a) (ap (λ z. c ∷ z) (in_front-digits cs (All-tail IsDigit c cs a)))
 
 pub behind-digits : (b : List ℕ) → All IsDigit b → behind b ≡ []
 behind-digits [] a = refl
-behind-digits (c ∷ cs) a = rw (no_point c cs a) (behind-digits cs (later c cs a))
+behind-digits (c ∷ cs) a = rw (no_point c cs a) (behind-digits cs (All-tail IsDigit c cs a))
 
 pub in_front-point : (b d : List ℕ) → All IsDigit b → in_front (b ++ (point ∷ d)) ≡ b
 in_front-point [] d a = refl
-in_front-point (c ∷ cs) d a = rw (no_point c cs a) (ap (λ z. c ∷ z) (in_front-point cs d (later c cs a)))
+in_front-point (c ∷ cs) d a = rw (no_point c cs a) (ap (λ z. c ∷ z) (in_front-point cs d (All-tail IsDigit c cs a)))
 
 pub behind-point : (b d : List ℕ) → All IsDigit b → behind (b ++ (point ∷ d)) ≡ d
 behind-point [] d a = refl
-behind-point (c ∷ cs) d a = rw (no_point c cs a) (behind-point cs d (later c cs a))
+behind-point (c ∷ cs) d a = rw (no_point c cs a) (behind-point cs d (All-tail IsDigit c cs a))
 
 pub front_digits : (b : List ℕ) → IsNumberToken b → All IsDigit (in_front b)
 front_digits b (inl i) = subst (All IsDigit) (sym (in_front-digits b i.1)) i.1

@@ -1,16 +1,14 @@
 -- The stops of a session, by the item that is served.
 use Rattle.std.proofs.Common.{◌≡◌, inl, inr, ⊎_elim, ℕ, suc, ◌+◌, ◌-◌, ◌≤◌, List, [], ◌∷◌, ◌++◌, length, take, refl, sym, ◌∙◌, ap, subst, arith, append_assoc, length-append}
+use Rattle.std.specs.List.{concat}
 use Rattle.std.proofs.lemmas.List.{append-nil, take-append-le}
+use Rattle.std.proofs.lemmas.List.Folds.{concat-append}
 use Rattle.std.proofs.lemmas.Bool.Decides.{nat_tests}
 use Rattle.std.proofs.lemmas.Bool.{le-ltb}
 use Rattle.std.proofs.Math.Seq.{take-append-add}
 use Rattle.abc_outside.specs.Stop.{Leaves}
 use Rattle.abc_outside.proofs.Leaves.{none_yet, run_after, weaken}
-use Rattle.abc_outside.specs.Session.{joined, heard, whole, IsPoint, IsInCommit, IsInSaying, IsInItem, in_commit, in_saying, HasServed, Serves}
-
-pub joined-append : (xs ys : List (List ℕ)) → joined (xs ++ ys) ≡ joined xs ++ joined ys
-joined-append [] ys = refl
-joined-append (x ∷ xs) ys = ap (λ (l : List ℕ). x ++ l) (joined-append xs ys) ∙ sym (append_assoc x (joined xs) (joined ys))
+use Rattle.abc_outside.specs.Session.{heard, whole, IsPoint, IsInCommit, IsInSaying, IsInItem, in_commit, in_saying, HasServed, Serves}
 
 pub heard_none : (rs : List (List ℕ)) → heard rs 0 ≤ 0
 heard_none [] = omega arith
@@ -25,57 +23,49 @@ heard_one r rs m le =
     omega (arith, heard_step r rs m, subst (λ k. heard rs k ≤ 0) (sym none) (heard_none rs))
 
 -- beyond whole replies
-pub heard_past : (xs rs : List (List ℕ)) (m : ℕ) → heard (xs ++ rs) (length (joined xs) + m) ≤ length xs + heard rs m
+pub heard_past : (xs rs : List (List ℕ)) (m : ℕ) → heard (xs ++ rs) (length (concat xs) + m) ≤ length xs + heard rs m
 heard_past [] rs m = let same : 0 + m ≡ m = omega arith in subst (λ k. heard rs k ≤ 0 + heard rs m) (sym same) (omega arith)
 heard_past (x ∷ xs) rs m =
-    let n = length (joined (x ∷ xs)) + m in
-    let rest : n - length x ≡ length (joined xs) + m = omega (arith, length-append x (joined xs)) in
+    let n = length (concat (x ∷ xs)) + m in
+    let rest : n - length x ≡ length (concat xs) + m = omega (arith, length-append x (concat xs)) in
     let tail : heard (xs ++ rs) (n - length x) ≤ length xs + heard rs m = subst (λ k. heard (xs ++ rs) k ≤ length xs + heard rs m) (sym rest) (heard_past xs rs m) in
     omega (arith, heard_step x (xs ++ rs) n, tail)
 
-pub whole_past : (xs rs : List (List ℕ)) (m : ℕ) → length xs + whole rs m ≤ whole (xs ++ rs) (length (joined xs) + m)
+pub whole_past : (xs rs : List (List ℕ)) (m : ℕ) → length xs + whole rs m ≤ whole (xs ++ rs) (length (concat xs) + m)
 whole_past [] rs m = let same : 0 + m ≡ m = omega arith in subst (λ k. 0 + whole rs m ≤ whole rs k) (sym same) (omega arith)
 whole_past (x ∷ xs) rs m =
-    let long : length (joined (x ∷ xs)) ≡ length x + length (joined xs) = length-append x (joined xs) in
-    let n = length (joined (x ∷ xs)) + m in
-    let rest : n - length x ≡ length (joined xs) + m = omega (arith, long) in
+    let long : length (concat (x ∷ xs)) ≡ length x + length (concat xs) = length-append x (concat xs) in
+    let n = length (concat (x ∷ xs)) + m in
+    let rest : n - length x ≡ length (concat xs) + m = omega (arith, long) in
     let tail : length xs + whole rs m ≤ whole (xs ++ rs) (n - length x) = subst (λ k. length xs + whole rs m ≤ whole (xs ++ rs) k) (sym rest) (whole_past xs rs m) in
     rw (le-ltb n (length x) (omega (arith, long))) (omega (arith, tail))
 
 module _ {W : Type 0} (opens : List ℕ → W → Type 0) where
   -- at the start of a session
-  pub point_start : (after : ℕ → W) (replies : List (List ℕ)) (said c s : List ℕ) → s ≡ said → opens c (after 0) → IsPoint opens after replies said c s
-  point_start after replies said c s is image = record {
+  -- nothing was said yet, and at most one item is kept
+  unsaid : (after : ℕ → W) (replies : List (List ℕ)) (said c s : List ℕ) (k : ℕ) → k ≤ length replies → k ≤ 1 → s ≡ said → opens c (after k) → IsPoint opens after replies said c s
+  unsaid after replies said c s k among most is image = record {
     count = 0;
     front = is ∙ sym (append-nil said);
     inside = omega arith;
-    k = 0;
-    among = omega arith;
+    k = k;
+    among = among;
     image = image;
-    all_heard = heard_none replies;
-    one_more = omega arith;
+    all_heard = omega (arith, heard_none replies);
+    one_more = omega (arith, most);
   }
+
+  pub point_start : (after : ℕ → W) (replies : List (List ℕ)) (said c s : List ℕ) → s ≡ said → opens c (after 0) → IsPoint opens after replies said c s
+  point_start after replies said c s is image = unsaid after replies said c s 0 (omega arith) (omega arith) is image
 
   -- while the first item is served
   pub point_item : (after : ℕ → W) (r : List ℕ) (rs : List (List ℕ)) (said c s : List ℕ) → IsInItem opens (after 0) (after 1) r said c s → IsPoint opens after (r ∷ rs) said c s
   point_item after r rs said c s (in_commit p) =
-      ⊎_elim
-      (λ old. point_start after (r ∷ rs) said c s p.nothing_said old)
-      (λ new. record {
-        count = 0;
-        front = p.nothing_said ∙ sym (append-nil said);
-        inside = omega arith;
-        k = 1;
-        among = omega arith;
-        image = new;
-        all_heard = omega arith;
-        one_more = omega arith;
-      })
-      p.image
+      ⊎_elim (λ old. point_start after (r ∷ rs) said c s p.nothing_said old) (λ new. unsaid after (r ∷ rs) said c s 1 (omega arith) (omega arith) p.nothing_said new) p.image
   point_item after r rs said c s (in_saying p) = record {
     count = p.count;
-    front = p.front ∙ ap (λ (l : List ℕ). said ++ l) (sym (take-append-le p.count r (joined rs) p.inside));
-    inside = omega (arith, length-append r (joined rs), p.inside);
+    front = p.front ∙ ap (λ (l : List ℕ). said ++ l) (sym (take-append-le p.count r (concat rs) p.inside));
+    inside = omega (arith, length-append r (concat rs), p.inside);
     k = 1;
     among = omega arith;
     image = p.image;
@@ -83,12 +73,12 @@ module _ {W : Type 0} (opens : List ℕ → W → Type 0) where
     one_more = omega arith;
   }
 
-  shifted : (after : ℕ → W) (done left : List (List ℕ)) (first said c s : List ℕ) → said ≡ first ++ joined done → IsPoint opens (λ k. after (length done + k)) left said c s → IsPoint opens after (done ++ left) first c s
+  shifted : (after : ℕ → W) (done left : List (List ℕ)) (first said c s : List ℕ) → said ≡ first ++ concat done → IsPoint opens (λ k. after (length done + k)) left said c s → IsPoint opens after (done ++ left) first c s
   shifted after done left first said c s is_said p = record {
-    count = length (joined done) + p.count;
-    front = p.front ∙ ap (λ (l : List ℕ). l ++ take p.count (joined left)) is_said ∙ append_assoc first (joined done) (take p.count (joined left))
-        ∙ ap (λ (l : List ℕ). first ++ l) (sym (ap (λ (l : List ℕ). take (length (joined done) + p.count) l) (joined-append done left) ∙ take-append-add (joined done) (joined left) p.count));
-    inside = omega (arith, ap length (joined-append done left), length-append (joined done) (joined left), p.inside);
+    count = length (concat done) + p.count;
+    front = p.front ∙ ap (λ (l : List ℕ). l ++ take p.count (concat left)) is_said ∙ append_assoc first (concat done) (take p.count (concat left))
+        ∙ ap (λ (l : List ℕ). first ++ l) (sym (ap (λ (l : List ℕ). take (length (concat done) + p.count) l) (concat-append done left) ∙ take-append-add (concat done) (concat left) p.count));
+    inside = omega (arith, ap length (concat-append done left), length-append (concat done) (concat left), p.inside);
     k = length done + p.k;
     among = omega (arith, length-append done left, p.among);
     image = p.image;
@@ -137,13 +127,13 @@ served_then after replies after_mid mid after_left left tells_said first said_mi
   done = a.done ++ b.done;
   split = a.split ∙ ap (λ rs. a.done ++ rs) b.split ∙ sym (append_assoc a.done b.done left);
   moved = λ k. let e : length a.done + (length b.done + k) ≡ length (a.done ++ b.done) + k = omega (arith, length-append a.done b.done) in b.moved k ∙ a.moved (length b.done + k) ∙ ap after e;
-  is_said = λ told. b.is_said told ∙ ap (λ (l : List ℕ). l ++ joined b.done) (a.is_said told) ∙ append_assoc first (joined a.done) (joined b.done)
-      ∙ ap (λ (l : List ℕ). first ++ l) (sym (joined-append a.done b.done));
+  is_said = λ told. b.is_said told ∙ ap (λ (l : List ℕ). l ++ concat b.done) (a.is_said told) ∙ append_assoc first (concat a.done) (concat b.done)
+      ∙ ap (λ (l : List ℕ). first ++ l) (sym (concat-append a.done b.done));
 }
 
 -- all were served
-pub all_said : {W : Type 0} (after : ℕ → W) (replies : List (List ℕ)) (after_left : ℕ → W) (tells_said : Type 0) (said said_later : List ℕ) → HasServed after replies after_left [] tells_said said said_later → tells_said → said_later ≡ said ++ joined replies
-all_said after replies after_left tells_said said said_later h told = h.is_said told ∙ ap (λ rs. said ++ joined rs) (sym (h.split ∙ append-nil h.done))
+pub all_said : {W : Type 0} (after : ℕ → W) (replies : List (List ℕ)) (after_left : ℕ → W) (tells_said : Type 0) (said said_later : List ℕ) → HasServed after replies after_left [] tells_said said said_later → tells_said → said_later ≡ said ++ concat replies
+all_said after replies after_left tells_said said said_later h told = h.is_said told ∙ ap (λ rs. said ++ concat rs) (sym (h.split ∙ append-nil h.done))
 
 pub last_after : {W : Type 0} (after : ℕ → W) (replies : List (List ℕ)) (after_left : ℕ → W) (tells_said : Type 0) (said said_later : List ℕ) → HasServed after replies after_left [] tells_said said said_later → after_left 0 ≡ after (length replies)
 last_after after replies after_left tells_said said said_later h =

@@ -1,5 +1,5 @@
 use Rattle.std.proofs.Common.{◌≡◌, ◌⊎◌, inl, inr, ⊎_elim, ℕ, zero, suc, ◌+◌, ◌-◌, ◌<◌, ◌≤◌, max, min, List, [], ◌∷◌, ◌++◌, length, take, drop, get_or, refl, sym, ◌∙◌, ap, subst, arith, length-append, length-take, length-drop}
-use Rattle.std.proofs.lemmas.List.{take_all, take_at, drop_all, get_or-take, get_or-drop, ext_get_or, get_or_append_left, get_or-append_right, append-nil}
+use Rattle.std.proofs.lemmas.List.{take-take, take_all, take_at, drop_all, get_or-take, get_or-drop, ext_get_or, get_or_append_left, get_or-append_right, append-nil}
 use Rattle.std.proofs.lemmas.Bool.{cases_lt}
 use Rattle.abc_outside.specs.Stop.{Torn, Shortened}
 use Rattle.abc_outside.specs.Ranges.{MayBe, Written, Past}
@@ -60,12 +60,6 @@ place (suc at) n s base (x ∷ xs) (suc i) lt = elim (place at n (suc s) base xs
   | behind a e ↦ behind (omega arith) e
 ]
 
-take_take : (m n : ℕ) (xs : List ℕ) → m ≤ n → take m (take n xs) ≡ take m xs
-take_take zero n xs le = refl
-take_take (suc m) zero xs le = absurd (omega arith)
-take_take (suc m) (suc n) [] le = refl
-take_take (suc m) (suc n) (x ∷ xs) le = ap (λ (l : List ℕ). x ∷ l) (take_take m n xs (omega arith))
-
 module _ (base : List ℕ) (loose : ℕ → Type 0) (least most at n : ℕ) (c : List ℕ) (within : at ≤ most) (sizes : least ≤ most) (may : MayBe base (Written loose at n) least (max most (at + n)) c) where
   abbrev d : List ℕ
   d = take most (patch at n 0 base c)
@@ -81,7 +75,7 @@ module _ (base : List ℕ) (loose : ℕ → Type 0) (least most at n : ℕ) (c :
 
   tears_so : Torn at n d c
   tears_so = record {
-    before = sym (take_take at most (patch at n 0 base c) within ∙ take-patch at n 0 base c);
+    before = sym (take-take at most (patch at n 0 base c) within ∙ take-patch at n 0 base c);
     after = same_behind;
     no_shorter = omega (arith, size);
     no_longer = omega (arith, size, may.no_longer);
@@ -134,7 +128,7 @@ module _ (base : List ℕ) (loose : ℕ → Type 0) (least most n : ℕ) (c : Li
   front = elim (cases_lt (length c) n) [
     | inl short ↦
         let none : length (fill n rest base) ≤ 0 = omega (arith, length-fill n rest base, may.no_shorter) in
-        sym (ap (λ (l : List ℕ). take n l) (ap (λ (l : List ℕ). take n c ++ l) (empty (fill n rest base) none) ∙ append-nil (take n c)) ∙ take_take n n c (omega arith))
+        sym (ap (λ (l : List ℕ). take n l) (ap (λ (l : List ℕ). take n c ++ l) (empty (fill n rest base) none) ∙ append-nil (take n c)) ∙ take-take n n c (omega arith))
     | inr enough ↦ sym (take_at (take n c) (fill n rest base) n (omega (arith, length-take n c)))
   ]
     where

@@ -1,11 +1,7 @@
 -- A session as a stop sees it: its workspaces, of which `after k` is the one after k items, and its replies, one an item.
 use Rattle.std.specs.Prelude.{◌≡◌, ◌⊎◌, ◌≤◌, ◌<◌, ℕ, suc, ◌+◌, ◌-◌, List, [], ◌∷◌, ◌++◌, length, take, if◌then◌else◌, ◌==◌, nat_lt}
+use Rattle.std.specs.List.{concat}
 use Rattle.abc_outside.specs.Stop.{Leaves, Now}
-
--- the replies one after the other
-abbrev pub joined : List (List ℕ) → List ℕ
-joined [] = []
-joined (r ∷ rs) = r ++ joined rs
 
 -- of how many replies these many bytes hold a byte
 abbrev pub heard : List (List ℕ) → ℕ → ℕ
@@ -21,8 +17,8 @@ whole (r ∷ rs) n = if nat_lt n (length r) then 0 else suc (whole rs (n - lengt
 -- which are all of whose reply a byte was said, and at most one more than were said wholly.
 pub record IsPoint {W : Type 0} (opens : List ℕ → W → Type 0) (after : ℕ → W) (replies : List (List ℕ)) (said c s : List ℕ) : Type 0 where
   pub count : ℕ
-  pub front : s ≡ said ++ take count (joined replies)
-  pub inside : count ≤ length (joined replies)
+  pub front : s ≡ said ++ take count (concat replies)
+  pub inside : count ≤ length (concat replies)
   pub k : ℕ
   pub among : k ≤ length replies
   pub image : opens c (after k)
@@ -53,14 +49,14 @@ pub record HasServed {W : Type 0} (after : ℕ → W) (replies : List (List ℕ)
   pub done : List (List ℕ)
   pub split : replies ≡ done ++ left
   pub moved : (k : ℕ) → after_left k ≡ after (length done + k)
-  pub is_said : tells_said → said_later ≡ said ++ joined done
+  pub is_said : tells_said → said_later ≡ said ++ concat done
 
 -- A session that stands between two items: the replies of the first k were said and no byte more, and a stop now leaves an
 -- image that opens to the workspace after them.
 pub record IsBetween {W : Type 0} (opens : List ℕ → W → Type 0) (after : ℕ → W) (replies : List (List ℕ)) (said said_now : List ℕ) (now : List ℕ → List ℕ → Type 0) : Type 0 where
   pub k : ℕ
   pub among : k ≤ length replies
-  pub said_is : said_now ≡ said ++ joined (take k replies)
+  pub said_is : said_now ≡ said ++ concat (take k replies)
   pub image : (c s : List ℕ) → now c s → opens c (after k)
 
 -- A session whose store failed: the replies of the first k items were said and no byte more, and a stop now leaves an image
@@ -68,7 +64,7 @@ pub record IsBetween {W : Type 0} (opens : List ℕ → W → Type 0) (after : �
 pub record IsBroken {W : Type 0} (opens : List ℕ → W → Type 0) (after : ℕ → W) (replies : List (List ℕ)) (said said_now : List ℕ) (now : List ℕ → List ℕ → Type 0) : Type 0 where
   pub k : ℕ
   pub among : k ≤ length replies
-  pub said_is : said_now ≡ said ++ joined (take k replies)
+  pub said_is : said_now ≡ said ++ concat (take k replies)
   pub image : (c s : List ℕ) → now c s → opens c (after k) ⊎ opens c (after (suc k))
 
 -- A session whose sink failed: after the replies of the first k items a front of the next one was said, and not all of it; a
@@ -77,9 +73,9 @@ pub record IsCutShort {W : Type 0} (opens : List ℕ → W → Type 0) (after : 
   pub k : ℕ
   pub among : k < length replies
   pub count : ℕ
-  pub said_is : said_now ≡ said ++ take count (joined replies)
-  pub begun : length (joined (take k replies)) ≤ count
-  pub cut : count < length (joined (take (suc k) replies))
+  pub said_is : said_now ≡ said ++ take count (concat replies)
+  pub begun : length (concat (take k replies)) ≤ count
+  pub cut : count < length (concat (take (suc k) replies))
   pub image : (c s : List ℕ) → now c s → opens c (after (suc k))
 
 -- Items of these replies are served one after the other, from one host to the last: it has ended before an item, or was
@@ -111,11 +107,11 @@ LaterPointsArePoints {W} opens =
 
 -- whole replies and m bytes more: no more are heard than all of them and those that the m bytes hold a byte of
 abbrev pub HeardPast : Type 0
-HeardPast = (xs rs : List (List ℕ)) (m : ℕ) → heard (xs ++ rs) (length (joined xs) + m) ≤ length xs + heard rs m
+HeardPast = (xs rs : List (List ℕ)) (m : ℕ) → heard (xs ++ rs) (length (concat xs) + m) ≤ length xs + heard rs m
 
 -- and no fewer are whole than all of them and those that the m bytes hold
 abbrev pub WholePast : Type 0
-WholePast = (xs rs : List (List ℕ)) (m : ℕ) → length xs + whole rs m ≤ whole (xs ++ rs) (length (joined xs) + m)
+WholePast = (xs rs : List (List ℕ)) (m : ℕ) → length xs + whole rs m ≤ whole (xs ++ rs) (length (concat xs) + m)
 
 -- the endings of what is left are endings of the whole
 abbrev pub LaterIsBetween : {H W : Type 0} (clock : H → ℕ) (stopped : H → ℕ → List ℕ → List ℕ → Type 0) (opens : List ℕ → W → Type 0) → Type 0

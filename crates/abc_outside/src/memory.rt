@@ -45,6 +45,26 @@ fn raise(count: &mut u64)
     *count = count.saturating_add(1);
 }
 
+/// The fault of a call, counted.
+fn fault(faults: &mut u64) -> Failed
+    ensures rose { RoseByOne faults.old faults.new }
+    ensures never_falls { faults.old ≤ faults.new }
+{
+    raise(faults);
+    Failed
+}
+
+/// The fault of a call that found no memory, counted as both.
+fn starve(starved: &mut u64, faults: &mut u64) -> Failed
+    ensures starved { RoseByOne starved.old starved.new }
+    ensures starved_never_falls { starved.old ≤ starved.new }
+    ensures rose { RoseByOne faults.old faults.new }
+    ensures never_falls { faults.old ≤ faults.new }
+{
+    raise(starved);
+    fault(faults)
+}
+
 /// The fault of a choice, counted: where an input is named, it is the input's.
 fn choose_fault(input: Option<&str>, input_faults: &mut u64, store_faults: &mut u64) -> ChooseFault
     ensures input { result ≡ ChooseFault.Input → IsSome input.entry × RoseByOne input_faults.old input_faults.new }
@@ -218,13 +238,10 @@ impl Host for MemoryHost {
         ensures listed_alone { is_next_listed CallKind.Read self.old ≡ true → starved_in self.new ≡ starved_in self.old }
     {
         if next_fails(&mut self.listed, CallKind::Read) {
-            raise(&mut self.input_faults);
-            return Err(Failed);
+            return Err(fault(&mut self.input_faults));
         }
         let Ok(()) = note_read(&mut self.asked, self.taken, self.said.len()) else {
-            raise(&mut self.starved);
-            raise(&mut self.input_faults);
-            return Err(Failed);
+            return Err(starve(&mut self.starved, &mut self.input_faults));
         };
         let count = buf.len().min(self.input.len() - self.place);
         buf[..count].copy_from_slice(&self.input[self.place..self.place + count]);
@@ -247,8 +264,7 @@ impl Host for MemoryHost {
         ensures starved { starved_in self.new ≡ starved_in self.old }
     {
         if next_fails(&mut self.listed, CallKind::Size) {
-            raise(&mut self.store_faults);
-            return Err(Failed);
+            return Err(fault(&mut self.store_faults));
         }
         Ok(self.image.len() as u64)
     }
@@ -269,8 +285,7 @@ impl Host for MemoryHost {
         ensures starved { starved_in self.new ≡ starved_in self.old }
     {
         if next_fails(&mut self.listed, CallKind::ReadAt) {
-            raise(&mut self.store_faults);
-            return Err(Failed);
+            return Err(fault(&mut self.store_faults));
         }
         let at = at as usize;
         buf.copy_from_slice(&self.image[at..at + buf.len()]);
@@ -299,13 +314,10 @@ impl Host for MemoryHost {
             at,
             bytes.len(),
         ) else {
-            raise(&mut self.starved);
-            raise(&mut self.store_faults);
-            return Err(Failed);
+            return Err(starve(&mut self.starved, &mut self.store_faults));
         };
         if fails {
-            raise(&mut self.store_faults);
-            return Err(Failed);
+            return Err(fault(&mut self.store_faults));
         }
         write_over(&mut self.image, at, bytes);
         Ok(())
@@ -327,13 +339,10 @@ impl Host for MemoryHost {
         let fails = next_fails(&mut self.listed, CallKind::Cut);
         let size = size as usize;
         let Ok(()) = record_cut(self.alloc, &self.image, &mut self.steps, size) else {
-            raise(&mut self.starved);
-            raise(&mut self.store_faults);
-            return Err(Failed);
+            return Err(starve(&mut self.starved, &mut self.store_faults));
         };
         if fails {
-            raise(&mut self.store_faults);
-            return Err(Failed);
+            return Err(fault(&mut self.store_faults));
         }
         self.image.truncate(size);
         Ok(())
@@ -352,13 +361,10 @@ impl Host for MemoryHost {
         ensures listed_alone { is_next_listed CallKind.Sync self.old ≡ true → starved_in self.new ≡ starved_in self.old }
     {
         if next_fails(&mut self.listed, CallKind::Sync) {
-            raise(&mut self.store_faults);
-            return Err(Failed);
+            return Err(fault(&mut self.store_faults));
         }
         let Ok(()) = record(&mut self.steps, Step::Synced) else {
-            raise(&mut self.starved);
-            raise(&mut self.store_faults);
-            return Err(Failed);
+            return Err(starve(&mut self.starved, &mut self.store_faults));
         };
         Ok(())
     }
@@ -380,14 +386,11 @@ impl Host for MemoryHost {
         ensures listed_alone { is_next_listed CallKind.Say self.old ≡ true → starved_in self.new ≡ starved_in self.old }
     {
         if next_fails(&mut self.listed, CallKind::Say) {
-            raise(&mut self.sink_faults);
-            return Err(Failed);
+            return Err(fault(&mut self.sink_faults));
         }
         let count = bytes.len().min(self.most_said);
         let Ok(()) = prepare_say(&mut self.said, &mut self.steps, count) else {
-            raise(&mut self.starved);
-            raise(&mut self.sink_faults);
-            return Err(Failed);
+            return Err(starve(&mut self.starved, &mut self.sink_faults));
         };
         append(&mut self.said, &bytes[..count]);
         Ok(count)

@@ -27,10 +27,6 @@ pub best_more : (end : Extreme) (xs : List Tree) (x : Tree) → best_of end (xs 
 best_more end [] x = refl
 best_more end (y ∷ xs) x = ap Some (with_more end y xs x)
 
-append_none : (xs : List Tree) → xs ++ [] ≡ xs
-append_none [] = refl
-append_none (x ∷ xs) = ap (λ ys. x ∷ ys) (append_none xs)
-
 -- where the next is wanted, and stands at the place of the better one
 pub best_moves : (end : Extreme) (t : Tree) (xs : List Tree) (f : Tree → Bool) (x : Tree) (best : Option ℕ) (place : ℕ) → f x ≡ true → place < length (elements_of t) → element_at t place ≡ better_with end (option_map (element_at t) best) x → IsPlaceOfBest end t xs best → IsPlaceOfBest end t (xs ++ filter f (x ∷ [])) (Some place)
 best_moves end t xs f x None place e l is h =

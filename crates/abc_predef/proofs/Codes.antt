@@ -1,5 +1,5 @@
 -- The codes of a text.
-use Rattle.std.proofs.Common.{◌≡◌, ℕ, suc, zero, ◌+◌, ◌*◌, ◌≤◌, List, [], ◌∷◌, ◌++◌, length, take, refl, sym, ap, subst, ◌∙◌, arith, slice_get, Some, None, map, drop, reverse, add-one}
+use Rattle.std.proofs.Common.{◌≡◌, ℕ, suc, zero, ◌+◌, ◌*◌, ◌≤◌, List, [], ◌∷◌, ◌++◌, length, take, refl, sym, ap, subst, ◌∙◌, arith, slice_get, Some, None, map, reverse, add-one}
 use Rattle.abc_num.specs.declared.limits.TheConstants.{MOST_ELEMENTS}
 use Rattle.abc_value.specs.Tree.{Tree, number, text, compound, list, table}
 use Rattle.abc_value.specs.Sizes.{length_of}
@@ -12,7 +12,9 @@ use Rattle.std.proofs.lemmas.Bool.Decides.{nat_tests}
 use Rattle.abc_predef.specs.declared.characters.Case.{Case}
 use Rattle.abc_predef.specs.declared.characters.Case.TheVariants.{Capital, Small}
 use Rattle.abc_predef.specs.Texts.{in_case, is_space, without_leading, stripped}
-use Rattle.std.proofs.lemmas.List.{length-append, append_assoc, length-reverse, reverse-append}
+use Rattle.abc_value.proofs.Characters.{characters-append}
+use Rattle.std.proofs.lemmas.Option.{slice_get_within, get_or_from_slice_get}
+use Rattle.std.proofs.lemmas.List.{append-nil, nil_from_length, take_more, length-append, append_assoc, length-reverse, reverse-append}
 
 pub regular_codes : (t : Tree) → IsRegular t → AreCharacters (codes_of t) × (length (codes_of t) ≤ MOST_ELEMENTS)
 unfolding IsRegular
@@ -22,33 +24,14 @@ regular_codes (compound ts) h = (tt, omega arith)
 regular_codes (list ts) h = (tt, omega arith)
 regular_codes (table ps) h = (tt, omega arith)
 
-pub take_next : (xs : List ℕ) (n c : ℕ) → slice_get xs n ≡ Some c → take n xs ++ c ∷ [] ≡ take (n + 1) xs
-take_next xs n c e = sym (ap (λ k. take k xs) (add-one n) ∙ at xs n e)
-  where
-    at : (xs : List ℕ) (n : ℕ) → slice_get xs n ≡ Some c → take (suc n) xs ≡ take n xs ++ c ∷ []
-    at [] n e = absurd (cc)
-    at (x ∷ xs) zero e = let s : x ≡ c = cc in ap (λ y. y ∷ []) s
-    at (x ∷ xs) (suc n) e = ap (λ ys. x ∷ ys) (at xs n e)
+pub take_next : {X : Type 0} (xs : List X) (n : ℕ) (c : X) → slice_get xs n ≡ Some c → take n xs ++ c ∷ [] ≡ take (n + 1) xs
+take_next xs n c e =
+    sym (take_more xs n c (slice_get_within xs n c e) ∙ ap (λ x. take n xs ++ x ∷ []) (get_or_from_slice_get xs n c c e))
 
 pub nothing_left : {X : Type 0} (xs : List X) (n : ℕ) → slice_get xs n ≡ None → length xs ≤ n
 nothing_left [] n e = omega arith
 nothing_left (x ∷ xs) zero e = absurd (cc)
 nothing_left (x ∷ xs) (suc n) e = let l = nothing_left xs n e in omega arith
-
--- parts of characters are characters
-pub characters-append : (b c : List ℕ) → AreCharacters b → AreCharacters c → AreCharacters (b ++ c)
-characters-append [] c h k = k
-characters-append (x ∷ b) c h k = (h.0, characters-append b c h.1 k)
-
-pub characters-drop : (n : ℕ) (b : List ℕ) → AreCharacters b → AreCharacters (drop n b)
-characters-drop zero b h = h
-characters-drop (suc n) [] h = tt
-characters-drop (suc n) (x ∷ b) h = characters-drop n b h.1
-
-pub characters-take : (n : ℕ) (b : List ℕ) → AreCharacters b → AreCharacters (take n b)
-characters-take zero b h = tt
-characters-take (suc n) [] h = tt
-characters-take (suc n) (x ∷ b) h = (h.0, characters-take n b h.1)
 
 pub characters-repeat : (n : ℕ) (b : List ℕ) → AreCharacters b → AreCharacters (repeat n b)
 characters-repeat zero b h = tt
@@ -69,17 +52,12 @@ repeat-none (suc n) = repeat-none n
 pub repeat-more : (n : ℕ) (b : List ℕ) → repeat n b ++ b ≡ repeat (n + 1) b
 repeat-more n b = at n ∙ sym (ap (λ k. repeat k b) (add-one n))
   where
-    append_none : (xs : List ℕ) → xs ≡ xs ++ []
-    append_none [] = refl
-    append_none (x ∷ xs) = ap (λ ys. x ∷ ys) (append_none xs)
-
     at : (n : ℕ) → repeat n b ++ b ≡ repeat (suc n) b
-    at zero = append_none b
+    at zero = sym (append-nil b)
     at (suc n) = append_assoc b (repeat n b) b ∙ ap (λ ys. b ++ ys) (at n)
 
 pub empty_list : (b : List ℕ) → (length b == 0) ≡ true → b ≡ []
-empty_list [] e = refl
-empty_list (x ∷ b) e = absurd (let h : length (x ∷ b) ≡ 0 = grind (arith, nat_tests) in omega arith)
+empty_list b e = nil_from_length b (let h : length b ≡ 0 = grind (arith, nat_tests) in h)
 
 pub short_repeat : (n : ℕ) (b : List ℕ) → nat_lt MOST_ELEMENTS (n * length b) ≡ false → length (repeat n b) ≤ MOST_ELEMENTS
 short_repeat n b e = let h : n * length b ≤ MOST_ELEMENTS = grind (arith, nat_tests) in omega (arith, length-repeat n b)

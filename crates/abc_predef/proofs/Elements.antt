@@ -1,8 +1,8 @@
 -- Elements of trains by their place.
-use Rattle.std.proofs.Common.{◌≡◌, ℕ, suc, zero, ◌+◌, ◌<◌, List, [], ◌∷◌, length, get_or, map, refl, sym, ap, ◌∙◌, subst, arith, slice_get, Some, None, add-one, pos, Result, Ok}
+use Rattle.std.proofs.Common.{◌≡◌, ℕ, ◌+◌, ◌<◌, List, length, get_or, map, sym, ap, ◌∙◌, subst, arith, slice_get, Some, None, add-one, pos, Result, Ok}
 use Rattle.std.proofs.lemmas.Option.{slice_get-get_or, get_or_from_slice_get}
 use Rattle.std.specs.Option.{ok_or}
-use Rattle.abc_value.specs.Tree.{Tree, number, text, compound, list, table, trees, listed, listed_pairs, no_trees, more}
+use Rattle.abc_value.specs.Tree.{Tree, number, text, compound, list, table, trees, listed, listed_pairs}
 use Rattle.abc_value.specs.Regular.{IsRegular, IsOrdered, AllRegular}
 use Rattle.abc_value.specs.Parts.{IsText, IsList, parts_of}
 use Rattle.abc_num.specs.Number.{Fraction, whole_number, whole_of}
@@ -10,12 +10,12 @@ use Rattle.abc_value.specs.declared.faults.ValueFault.{ValueFault}
 use Rattle.abc_value.specs.declared.faults.ValueFault.TheVariants.{OutOfRange}
 use Rattle.abc_value.specs.Items.{IsTrain, IsAnswer, elements_of, item_of}
 use Rattle.abc_value.specs.Items as items
+use Rattle.abc_value.proofs.Rows.{trees_listed}
 use Rattle.abc_predef.specs.Places.{element_at}
+use Rattle.abc_predef.proofs.Codes.{nothing_left}
 
 part_there : (xs : List Tree) (i : ℕ) → i < length xs → slice_get xs i ≡ None → ⊥
-part_there [] i l e = absurd (omega arith)
-part_there (x ∷ xs) zero l e = cc
-part_there (x ∷ xs) (suc i) l e = part_there xs i (omega arith) e
+part_there xs i l e = let past = nothing_left xs i e in absurd (omega arith)
 
 -- a train without a part at a place that it has is a text
 pub is_text : (t : Tree) (i : ℕ) → IsTrain t → i < length (elements_of t) → slice_get (parts_of t) i ≡ None → IsText t
@@ -45,10 +45,6 @@ list_part_is (text b) i x d h e = absurd h
 list_part_is (compound ts) i x d h e = absurd h
 list_part_is (list ts) i x d h e = get_or_from_slice_get (listed ts) i x d e
 list_part_is (table ps) i x d h e = absurd h
-
-pub trees_listed : (ts : _) → trees (listed ts) ≡ ts
-trees_listed no_trees = refl
-trees_listed (more t ts) = ap (more t) (trees_listed ts)
 
 pub list_elements : (t : Tree) → IsList t → IsRegular t → IsOrdered (trees (elements_of t)) × AllRegular (trees (elements_of t))
 unfolding IsRegular

@@ -4,14 +4,16 @@ use Rattle.std.specs.Option.{option_map}
 use Rattle.std.specs.List.{find}
 use Rattle.std.specs.declared.cmp.Ordering.{Ordering}
 use Rattle.std.specs.declared.cmp.Ordering.TheVariants.{Less, Equal, Greater}
-use Rattle.std.specs.Ordering.{nat_cmp, ordering_then, ordering_reverse, is_lt, is_eq}
+use Rattle.std.specs.Ordering.{nat_cmp, ordering_then, ordering_reverse, is_eq}
 use Rattle.std.specs.Cmp.{IsTotalOrder, nat_cmp_total, then_total, on_total}
 use Rattle.std.specs.Cmp.Lexicographic.{nat_list_cmp_total}
-use Rattle.std.proofs.lemmas.Bool.{cases_lt}
+use Rattle.std.proofs.lemmas.Bool.{cases_lt, and_parts}
+use Rattle.std.proofs.lemmas.List.{get_or_default}
 use Rattle.std.proofs.lemmas.Bool.Decides.{nat_tests}
 use Rattle.std.proofs.lemmas.Map.Text.{is_eq-slice_cmp}
 use Rattle.abc_num.specs.Text.{text_cmp, text_eq}
 use Rattle.abc_predef.specs.declared.table.Row.{Row}
+use Rattle.abc_predef.proofs.Halves.{is_less}
 use Rattle.abc_predef.specs.Order.{places_of, name_of, Key, key_of, key_order, are_rising, is_named, named}
 
 key_total : IsTotalOrder key_order
@@ -41,41 +43,23 @@ not_less k r e = sym (named_is k r) ∙ ap is_eq e
 not_greater : (k : Key) (r : Row) → key_order (key_of r) k ≡ Greater → is_named k r ≡ false
 not_greater k r e = sym (named_is k r) ∙ ap is_eq e
 
-less_is : (o : Ordering) → is_lt o ≡ true → o ≡ Less
-less_is Less h = refl
-less_is Equal h = absurd (cc)
-less_is Greater h = absurd (cc)
-
-both_left : (a b : Bool) → (a && b) ≡ true → a ≡ true
-both_left true b h = refl
-both_left false b h = h
-
-both_right : (a b : Bool) → (a && b) ≡ true → b ≡ true
-both_right true b h = h
-both_right false b h = absurd (cc)
-
 -- the first is less than each other
 first_less : (r : Row) (rows : List Row) (k : ℕ) (d : Row) → are_rising (r ∷ rows) ≡ true → k < length rows → key_order (key_of r) (key_of (get_or rows k d)) ≡ Less
 first_less r [] k d h l = absurd (omega arith)
-first_less r (s ∷ rows) zero d h l = less_is (key_order (key_of r) (key_of s)) (both_left _ _ h)
+first_less r (s ∷ rows) zero d h l = is_less (key_order (key_of r) (key_of s)) (and_parts _ _ h).0
 first_less r (s ∷ rows) (suc k) d h l =
-    key_total.trans (key_of r) (key_of s) (key_of (get_or rows k d)) (less_is (key_order (key_of r) (key_of s)) (both_left _ _ h))
-    (first_less s rows k d (both_right (is_lt (key_order (key_of r) (key_of s))) (are_rising (s ∷ rows)) h) (omega arith))
+    key_total.trans (key_of r) (key_of s) (key_of (get_or rows k d)) (is_less (key_order (key_of r) (key_of s)) (and_parts _ _ h).0)
+    (first_less s rows k d (and_parts _ _ h).1 (omega arith))
 
 tail_rising : (r : Row) (rows : List Row) → are_rising (r ∷ rows) ≡ true → are_rising rows ≡ true
 tail_rising r [] h = refl
-tail_rising r (s ∷ rows) h = both_right (is_lt (key_order (key_of r) (key_of s))) (are_rising (s ∷ rows)) h
+tail_rising r (s ∷ rows) h = (and_parts _ _ h).1
 
 rising_less : (rows : List Row) (j k : ℕ) (d : Row) → are_rising rows ≡ true → j < k → k < length rows → key_order (key_of (get_or rows j d)) (key_of (get_or rows k d)) ≡ Less
 rising_less [] j k d h l m = absurd (omega arith)
 rising_less (r ∷ rows) j zero d h l m = absurd (omega arith)
 rising_less (r ∷ rows) zero (suc k) d h l m = first_less r rows k d h (omega arith)
 rising_less (r ∷ rows) (suc j) (suc k) d h l m = rising_less rows j k d (tail_rising r rows h) (omega arith) (omega arith)
-
-same_read : (rows : List Row) (n : ℕ) (d e : Row) → n < length rows → get_or rows n d ≡ get_or rows n e
-same_read [] n d e h = absurd (omega arith)
-same_read (r ∷ rows) zero d e h = refl
-same_read (r ∷ rows) (suc n) d e h = same_read rows n d e (omega arith)
 
 -- the first row that passes
 find_at : (p : Row → Bool) (rows : List Row) (n : ℕ) (r : Row) → n < length rows → ((d : Row) → get_or rows n d ≡ r) → p r ≡ true → ((i : ℕ) (d : Row) → i < n → p (get_or rows i d) ≡ false) → find p rows ≡ Some r
@@ -141,13 +125,13 @@ module _ (k : Key) (rows : List Row) (low high m : ℕ) (rising : are_rising row
   there = omega (arith, b.within)
 
   pub low_moves : key_order (key_of (get_or rows m e)) k ≡ Less → Between k rows (m + 1) high
-  low_moves o = move_low k rows low high m rising b p q (λ d. ap (λ r. key_order (key_of r) k) (same_read rows m d e there) ∙ o)
+  low_moves o = move_low k rows low high m rising b p q (λ d. ap (λ r. key_order (key_of r) k) (get_or_default rows m d e there) ∙ o)
 
   pub high_moves : key_order (key_of (get_or rows m e)) k ≡ Greater → Between k rows low m
-  high_moves o = move_high k rows low high m rising b p q (λ d. ap (λ r. key_order (key_of r) k) (same_read rows m d e there) ∙ o)
+  high_moves o = move_high k rows low high m rising b p q (λ d. ap (λ r. key_order (key_of r) k) (get_or_default rows m d e there) ∙ o)
 
   pub is_found : key_order (key_of (get_or rows m e)) k ≡ Equal → Some (get_or rows m e).op ≡ named rows k
-  is_found o = found k rows low high m rising b p q (get_or rows m e) (λ d. same_read rows m d e there) o
+  is_found o = found k rows low high m rising b p q (get_or rows m e) (λ d. get_or_default rows m d e there) o
 
 pub not_found : (k : Key) (rows : List Row) (low high : ℕ) → Between k rows low high → high ≤ low → None ≡ named rows k
 not_found k rows low high b h = ap (option_map (λ r. r.op)) (sym (find_none (is_named k) rows (λ i d l. elim (cases_lt i low) [

@@ -4,7 +4,7 @@ use mir.Val.{bool_byte}
 use Rattle.std.specs.declared.cmp.Ordering.{Ordering}
 use Rattle.std.specs.declared.cmp.Ordering.TheVariants.{Less, Equal, Greater}
 use Rattle.std.specs.List.{count_by, list_any}
-use Rattle.std.specs.Ordering.{is_eq, ordering_index}
+use Rattle.std.specs.Ordering.{is_eq, is_lt, ordering_index}
 use Rattle.std.proofs.lemmas.Bool.Decides.{nat_tests}
 use Rattle.std.proofs.lemmas.List.{take_more}
 use Rattle.std.proofs.lemmas.List.Sums.{sum_by-append}
@@ -27,13 +27,10 @@ pub record Between (side : Side) (e : Tree) (xs : List Tree) (low high : ℕ) : 
 pub between_all : (side : Side) (e : Tree) (xs : List Tree) (n : ℕ) → n ≡ length xs → Between side e xs 0 n
 between_all side e xs n h = record { met = omega arith; within = omega arith; before = λ k l. absurd (omega arith); behind = λ k l m. absurd (omega arith) }
 
-is_less : (o : Ordering) → is_on Below o ≡ true → o ≡ Less
+pub is_less : (o : Ordering) → is_lt o ≡ true → o ≡ Less
 is_less Less h = refl
 is_less Equal h = absurd (cc)
 is_less Greater h = absurd (cc)
-
-less_is : (o : Ordering) → o ≡ Less → is_on Below o ≡ true
-less_is o h = ap (is_on Below) h
 
 is_at_most : (o : Ordering) → is_on UpTo o ≡ true → o ≢ Greater
 is_at_most Less h k = cc
@@ -47,7 +44,7 @@ at_most_is Greater h = absurd (h refl)
 
 -- what is at most a value on the side is on the side
 on_before : (side : Side) (x y e : Tree) → IsRegular x → IsRegular y → IsRegular e → order x y ≢ Greater → is_on side (order y e) ≡ true → is_on side (order x e) ≡ true
-on_before Below x y e i j l h k = less_is (order x e) (less_before x y e i j l h (is_less (order y e) k))
+on_before Below x y e i j l h k = ap (is_on Below) (less_before x y e i j l h (is_less (order y e) k))
 on_before UpTo x y e i j l h k = at_most_is (order x e) (at_most x y e i j l h (is_at_most (order y e) k))
 
 not_on_after : (side : Side) (x y e : Tree) (b : Bool) → b ≡ is_on side (order y e) → IsRegular x → IsRegular y → IsRegular e → order x y ≢ Greater → is_on side (order x e) ≡ false → is_on side (order y e) ≡ false

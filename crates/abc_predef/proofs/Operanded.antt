@@ -8,6 +8,7 @@ use Rattle.abc_value.specs.Tree.{Tree, number, text, compound, list, table, no_t
 use Rattle.abc_value.specs.Types.{has, IsCollection}
 use Rattle.abc_value.specs.Parts.{IsText, IsTable}
 use Rattle.abc_value.specs.Items.{IsTrain}
+use Rattle.abc_value.proofs.Shaping.{of_number, of_fields, of_text}
 use Rattle.abc_predef.specs.declared.table.Letter.{Letter}
 use Rattle.abc_predef.specs.declared.table.Letter.TheVariants as letter
 use Rattle.abc_predef.specs.declared.table.Operands.TheVariants.{One, Two}
@@ -48,28 +49,12 @@ tabular (list no_trees) k a h = tt
 tabular (list (more t ts)) k a h = let e = h.1 in cc
 tabular (table ps) k a h = tt
 
-no_train_number : (g e : Ground) → g ≡ type.Number → IsTrainOf g e → ⊥
-no_train_number g e is (inl h) = let p = h.0 in cc
-no_train_number g e is (inr (inl h)) = cc
-no_train_number g e is (inr (inr h)) = let p = h.1 in cc
-
-no_train_compound : (g e : Ground) (gs : _) → g ≡ type.Compound gs → IsTrainOf g e → ⊥
-no_train_compound g e gs is (inl h) = let p = h.0 in cc
-no_train_compound g e gs is (inr (inl h)) = cc
-no_train_compound g e gs is (inr (inr h)) = let p = h.1 in cc
-
 train : (t : Tree) (g e : Ground) → IsTrainOf g e → has t g → IsTrain t
-train (number n) g e k h = no_train_number g e h k
+train (number n) g e k h = of_number g e h k
 train (text b) g e k h = tt
-train (compound ts) g e k h = no_train_compound g e h.0 h.1 k
+train (compound ts) g e k h = of_fields g e h.0 h.1 k
 train (list ts) g e k h = tt
 train (table ps) g e k h = tt
-
--- the element of a text is a text
-of_text : (g e : Ground) → g ≡ type.Text → IsTrainOf g e → e ≡ type.Text
-of_text g e is (inl h) = h.1
-of_text g e is (inr (inl h)) = absurd (cc)
-of_text g e is (inr (inr h)) = let p = h.1 in absurd (cc)
 
 like : (x t : Tree) (g e : Ground) → IsTrainOf g e → has t g → has x e → IsLike x t
 like x (number n) g e k h l = tt

@@ -1,5 +1,5 @@
 -- What abc_num's operations answer is what the rows give.
-use Rattle.std.proofs.Common.{◌≡◌, ◌≢◌, ℕ, suc, zero, ◌*◌, ◌<◌, ◌%◌, ◌^◌, refl, sym, ap, ◌∙◌, arith, ℤ, pos, negsuc, ◌*ℤ◌, ◌<ℤ◌, Bool, true, false, None, Some, Result, inl, inr, ◌⊎◌, ◌↔◌}
+use Rattle.std.proofs.Common.{◌≡◌, ◌≢◌, ℕ, suc, zero, ◌*◌, ◌%◌, ◌^◌, refl, sym, ap, ◌∙◌, arith, ℤ, pos, negsuc, ◌<ℤ◌, Bool, true, false, None, Some, Result, inl, inr, ◌⊎◌, ◌↔◌}
 use Rattle.std.specs.Prelude.{nat_eq}
 use Rattle.std.specs.Result.{IsErrOf}
 use Rattle.std.specs.Int.{int_pow}
@@ -11,18 +11,15 @@ use Rattle.abc_num.specs.declared.number.NumFault.TheVariants.{DivisionByZero, N
 use Rattle.abc_num.specs.Number.{Fraction, IsNumber, whole_of}
 use Rattle.abc_num.specs.Operations.{IsSum, IsDifference, IsProduct, IsQuotient, IsRest, IsPower, IsRoundedTo, DividesByZero}
 use Rattle.abc_num.proofs.Digits.{power-positive}
-use Rattle.abc_num.proofs.Integers.{cancel}
-use Rattle.abc_num.proofs.LowestTerms.{number_lowest}
+use Rattle.abc_num.proofs.Order.{denominator-positive}
 use Rattle.abc_num.proofs.Powers.{int_pow-even, int_pow-odd}
 use Rattle.abc_num.proofs.Ratios.{pos_ne, product_pos}
+use Rattle.abc_num.proofs.Signs.{factor_ne}
 use Rattle.abc_predef.specs.Numbers.{unless_zero, sum_of, difference_of, product_of, quotient_of, rest_of, whole_power, power_to, power_of, whole_rounding, rounding_to, rounding_of}
 use Rattle.abc_predef.proofs.Ratios.{ratio_is}
 
-below_pos : (n : Fraction) → IsNumber n → 0 < n.denominator
-below_pos n h = (number_lowest n h).1
-
 common_ne : (x y : Fraction) → IsNumber x → IsNumber y → pos (x.denominator * y.denominator) ≢ pos 0
-common_ne x y h k = pos_ne (x.denominator * y.denominator) (product_pos x.denominator y.denominator (below_pos x h) (below_pos y k))
+common_ne x y h k = pos_ne (x.denominator * y.denominator) (product_pos x.denominator y.denominator (denominator-positive x h) (denominator-positive y k))
 
 pub sum_is : (x y : Fraction) (r : Result Fraction NumFault) → IsNumber x → IsNumber y → IsSum x y r → r ≡ sum_of x y
 sum_is x y r h k v = ratio_is _ _ r (common_ne x y h k) v
@@ -38,11 +35,8 @@ by_divisor (pos zero) r answer h k = h.1 refl
 by_divisor (pos (suc n)) r answer h k = k (pos_ne (suc n) (omega arith)) ∙ (let t : nat_eq (suc n) 0 ≡ false = grind (arith, nat_tests) in rw t refl)
 by_divisor (negsuc n) r answer h k = k (λ e. absurd (omega (arith, ints, e)))
 
-scaled_ne : (z : ℤ) (b : ℕ) → z ≢ pos 0 → 0 < b → z *ℤ pos b ≢ pos 0
-scaled_ne z b h k e = h (cancel (pos b) z (pos 0) (pos_ne b k) (e ∙ (let t : pos 0 ≡ pos 0 *ℤ pos b = omega (arith, ints) in t)))
-
 pub quotient_is : (x y : Fraction) (r : Result Fraction NumFault) → IsNumber x → (IsErrOf r DivisionByZero ↔ (y.numerator ≡ pos 0)) → (y.numerator ≢ pos 0 → IsQuotient x y r) → r ≡ quotient_of x y
-quotient_is x y r h z v = by_divisor y.numerator r _ z (λ n. ratio_is _ _ r (scaled_ne y.numerator x.denominator n (below_pos x h)) (v n))
+quotient_is x y r h z v = by_divisor y.numerator r _ z (λ n. ratio_is _ _ r (factor_ne y.numerator x.denominator n (denominator-positive x h)) (v n))
 
 pub rest_is : (x y : Fraction) (r : Result Fraction NumFault) → IsNumber x → IsNumber y → (IsErrOf r DivisionByZero ↔ (y.numerator ≡ pos 0)) → (y.numerator ≢ pos 0 → IsRest x y r) → r ≡ rest_of x y
 rest_is x y r h k z v = by_divisor y.numerator r _ z (λ n. ratio_is _ _ r (common_ne x y h k) (v n))
@@ -59,7 +53,7 @@ power_ne (negsuc a) n h =
 
 by_exponent : (x : Fraction) (n : ℤ) (r : Result Fraction NumFault) → IsNumber x → (IsErrOf r DivisionByZero ↔ DividesByZero x n) → (¬ (DividesByZero x n) → IsPower x n r) → r ≡ whole_power x n
 by_exponent x (pos n) r h z v =
-    ratio_is _ _ r (pos_ne (x.denominator ^ n) (power-positive x.denominator n (below_pos x h))) (v (λ d. absurd (omega (arith, ints, d.1))))
+    ratio_is _ _ r (pos_ne (x.denominator ^ n) (power-positive x.denominator n (denominator-positive x h))) (v (λ d. absurd (omega (arith, ints, d.1))))
 by_exponent x (negsuc n) r h z v =
     let below : negsuc n <ℤ pos 0 = omega (arith, ints) in
     by_divisor x.numerator r _ (λ e. (z.0 e).0, λ e. z.1 (e, below))

@@ -1,6 +1,6 @@
 -- The printed forms of values are characters.
-use Rattle.std.proofs.Common.{ℕ, zero, suc, ◌+◌, ◌*◌, ◌/◌, ◌%◌, ◌^◌, ◌<◌, ◌≤◌, List, [], ◌∷◌, ◌++◌, arith, Option, Some, None, ℤ, pos, negsuc, Bool, true, false, ◌==◌, ◌||◌}
-use Rattle.std.specs.Prelude.{unsigned_abs, codes, decimal, replicate, if◌then◌else◌}
+use Rattle.std.proofs.Common.{ℕ, zero, suc, ◌+◌, ◌*◌, ◌/◌, ◌%◌, ◌^◌, ◌<◌, ◌≤◌, List, [], ◌∷◌, ◌++◌, arith, Option, Some, None, ℤ, pos, negsuc}
+use Rattle.std.specs.Prelude.{unsigned_abs, codes, decimal, replicate}
 use Rattle.std.specs.List.{AllByRecursion, flat_map}
 use Rattle.std.specs.Str.Parse.{AllDigits}
 use Rattle.std.proofs.lemmas.Bool.Decides.{nat_tests}
@@ -13,7 +13,7 @@ use Rattle.abc_value.specs.Regular.{IsRegular, AllRegular, AllRegularPairs, AreC
 use Rattle.abc_value.specs.Printed.{places, decimals, by_places, sign, number_text, doubled, quoted, joined, display, displays, pair_displays, plain, plains, outer}
 use Rattle.abc_predef.specs.Aligned.{between_spaces}
 use Rattle.abc_predef.specs.Characters.{space}
-use Rattle.abc_predef.proofs.Codes.{characters-append}
+use Rattle.abc_value.proofs.Characters.{characters-append, characters-doubled}
 
 digits_characters : (b : List ℕ) → AllDigits 10 b → AreCharacters b
 digits_characters [] h = tt
@@ -52,21 +52,10 @@ number_characters f h =
     characters-append (sign f.numerator) (by_places (unsigned_abs f.numerator) f.denominator (places f.denominator))
     (sign_characters f.numerator) (parts_characters (unsigned_abs f.numerator) f.denominator (places f.denominator) b.0 b.1)
 
-doubled_characters : (c : ℕ) → 32 ≤ c → c ≤ 126 → AreCharacters (doubled c)
-doubled_characters c h k = at ((c == 34) || (c == 96))
-  where
-    at : (b : Bool) → AreCharacters (if b then c ∷ c ∷ [] else c ∷ [])
-    at true = ((h, k), ((h, k), tt))
-    at false = ((h, k), tt)
-
-all_doubled : (b : List ℕ) → AreCharacters b → AreCharacters (flat_map doubled b)
-all_doubled [] h = tt
-all_doubled (c ∷ b) h = characters-append (doubled c) (flat_map doubled b) (doubled_characters c h.0.0 h.0.1) (all_doubled b h.1)
-
 quoted_characters : (b : List ℕ) → AreCharacters b → AreCharacters (quoted b)
 quoted_characters b h =
     characters-append (codes "\"" ++ flat_map doubled b) (codes "\"")
-    (characters-append (codes "\"") (flat_map doubled b) (character 34 (omega arith) (omega arith)) (all_doubled b h)) (character 34 (omega arith) (omega arith))
+    (characters-append (codes "\"") (flat_map doubled b) (character 34 (omega arith) (omega arith)) (characters-doubled b h)) (character 34 (omega arith) (omega arith))
 
 all_behind : (separator : List ℕ) (texts : List (List ℕ)) → AreCharacters separator → AllByRecursion AreCharacters texts → AreCharacters (flat_map (λ t. separator ++ t) texts)
 all_behind separator [] s h = tt

@@ -12,7 +12,8 @@ use Rattle.abc_num.specs.declared.number.NumFault.TheVariants.{Overflow}
 use Rattle.abc_num.specs.Number.{Fraction, fraction, signed, AreParts}
 use Rattle.abc_num.specs.Ratio.{IsRatio, IsNoNumber}
 use Rattle.abc_num.proofs.Integers.{cancel}
-use Rattle.abc_num.proofs.LowestTerms.{parts_coprime, factor_pos, same_parts, signed-*ℤ, only_parts, bounds, number-from_parts}
+use Rattle.abc_num.proofs.Divisors.{factor_positive}
+use Rattle.abc_num.proofs.LowestTerms.{parts_coprime, same_parts, signed-*ℤ, only_parts, bounds, number-from_parts}
 use Rattle.abc_num.proofs.Ratios.{IsRatio-same, pos_ne}
 use Rattle.abc_num.proofs.Signs.{signed-product}
 use Rattle.abc_predef.specs.Numbers.{gcd_within, gcd, are_within, number_or_overflow, is_negative, differ, ratio}
@@ -32,7 +33,7 @@ gcd_is a b = gcd_within_is (suc b) a b (omega arith)
 within_parts : (x y : ℕ) → x < 2 ^ 127 → y < 2 ^ 63 → ((y ≡ 1 → ⊥) → x < 2 ^ 63) → are_within x y ≡ true
 within_parts x y h k l = elim (cases_eq y 1) [ inl e ↦ grind (arith, nat_tests) | inr n ↦ let m = l n in grind (arith, nat_tests) ]
 
-parts_within : (x y : ℕ) → 0 < y → IsGcd x y 1 → are_within x y ≡ true → AreParts x y
+pub parts_within : (x y : ℕ) → 0 < y → IsGcd x y 1 → are_within x y ≡ true → AreParts x y
 parts_within x y h i t = record {
   lowest = i;
   positive = h;
@@ -88,7 +89,7 @@ ratio_is a b r h v =
     let g = gcd m n in
     let i = gcd_is m n in
     let n_pos = size_pos b h in
-    let y_pos = factor_pos (n / g) g n (div-mul_cancel g i.1) n_pos in
+    let y_pos = factor_positive (n / g) g n (div-mul_cancel g i.1) n_pos in
     let e : a *ℤ pos (n / g) ≡ signed (differ s t) (m / g) *ℤ b =
     ap (λ z. z *ℤ pos (n / g)) (by_sign a) ∙ same_ratio s t m n (m / g) (n / g) (sym (same_parts m n g i)) ∙ ap (λ z. signed (differ s t) (m / g) *ℤ z) (sym (by_sign b)) in
     settled (differ s t) (m / g) (n / g) r y_pos (parts_coprime m n g n_pos i) (IsRatio-same a b (signed (differ s t) (m / g)) (pos (n / g)) r h (pos_ne (n / g) y_pos) e v)

@@ -164,9 +164,6 @@ pub has_no_result : (o : Op) (xs : List Tree) → IsTest o xs → IsNone (result
 unfolding IsTest
 has_no_result o xs g = g.0
 
-pub some_is : {A : Type 0} (a b : A) → Some a ≡ Some b → a ≡ b
-some_is a b e = cc
-
 pub no_result : (l : Option Letter) → l ≡ None → IsSome l → ⊥
 no_result (Some l) e h = cc
 no_result None e h = let f = h in cc

@@ -1,25 +1,24 @@
 -- The keys of a table, as a list.
-use Rattle.std.proofs.Common.{◌≡◌, ◌≢◌, ℕ, zero, suc, ◌+◌, ◌<◌, ◌≤◌, List, [], ◌∷◌, ◌++◌, length, take, map, refl, sym, ap, ◌∙◌, subst, arith, slice_get, Some, None, add-one, Ok, inl}
+use Rattle.std.proofs.Common.{◌≡◌, ◌≢◌, ℕ, zero, suc, ◌+◌, ◌<◌, ◌≤◌, List, [], ◌∷◌, ◌++◌, length, take, map, refl, sym, ap, ◌∙◌, arith, slice_get, Some, None, Ok, inl}
 use Rattle.std.specs.List.{AllByRecursion}
 use Rattle.std.specs.Ordering.{match_ordering}
 use Rattle.std.specs.declared.cmp.Ordering.TheVariants.{Less}
-use Rattle.std.proofs.lemmas.Bool.Decides.{nat_tests}
 use Rattle.std.proofs.lemmas.Option.{slice_get_within}
-use Rattle.std.proofs.lemmas.List.{length-take-le}
-use Rattle.abc_num.specs.declared.limits.TheConstants.{MOST_ELEMENTS, MOST_VALUE_HEIGHT, MOST_WEIGHT}
+use Rattle.std.proofs.lemmas.List.{length-take-le, take_all}
 use Rattle.abc_value.specs.declared.faults.ValueFault.{ValueFault}
 use Rattle.abc_value.specs.declared.faults.ValueFault.TheVariants.{Memory}
 use Rattle.abc_value.specs.Tree.{Tree, Pairs, number, text, compound, list, table, trees, listed_pairs, no_trees, more, no_pairs, pair}
 use Rattle.abc_value.specs.Order.{order}
-use Rattle.abc_value.specs.Sizes.{length_of, trees_height, trees_weight, pairs_height, pairs_weight, count, count_pairs, sizes_fault, size_fault}
+use Rattle.abc_value.specs.Sizes.{length_of, trees_height, trees_weight, pairs_height, pairs_weight, count, count_pairs, size_fault}
 use Rattle.abc_value.specs.Regular.{IsRegular, AllRegularPairs, IsRising}
 use Rattle.abc_value.specs.Parts.{IsTable, keys_of, parts_of}
 use Rattle.abc_value.specs.Changes.{add}
 use Rattle.abc_value.specs.Items.{IsAnswer}
 use Rattle.abc_value.proofs.Itemised.{only_memory}
-use Rattle.abc_predef.proofs.Codes.{nothing_left}
-use Rattle.abc_value.proofs.OrderLaws.{order-trans}
-use Rattle.abc_value.proofs.Rows.{listed_trees, count_trees, take_all}
+use Rattle.abc_predef.proofs.Codes.{nothing_left, take_next}
+use Rattle.abc_value.proofs.Adding.{no_fault}
+use Rattle.abc_value.proofs.RisingKeys.{tail_rising, Below, below_all}
+use Rattle.abc_value.proofs.Rows.{listed_trees, count_trees}
 
 -- e goes behind what is less
 pub add_last : (e : Tree) (xs : List Tree) → AllByRecursion (λ x. order x e ≡ Less) xs → add e xs ≡ xs ++ e ∷ []
@@ -31,17 +30,10 @@ abbrev pub firsts : Pairs → List Tree
 firsts ps = map (λ p. p.0) (listed_pairs ps)
 
 -- a key is less than each later one
-less_than_later : (k a : Tree) (ps : Pairs) (i : ℕ) (x : Tree) → IsRising (pair k a ps) → AllRegularPairs (pair k a ps) → slice_get (firsts ps) i ≡ Some x → (order k x ≡ Less) × IsRegular x
-unfolding AllRegularPairs
-less_than_later k a no_pairs i x h r e = absurd (cc)
-less_than_later k a (pair l b ps) zero x h r e =
-    let s : l ≡ x = cc in (ap (order k) (sym s) ∙ h.0, subst IsRegular s r.2.0)
-less_than_later k a (pair l b ps) (suc i) x h r e =
-    let rest = less_than_later l b ps i x h.1 r.2 e in (order-trans k l x r.0 r.2.0 rest.1 h.0 rest.0, rest.1)
-
-tail_rising : (k a : Tree) (ps : Pairs) → IsRising (pair k a ps) → IsRising ps
-tail_rising k a no_pairs h = tt
-tail_rising k a (pair l b ps) h = h.1
+below_at : (k : Tree) (ps : Pairs) (i : ℕ) (x : Tree) → Below k ps → slice_get (firsts ps) i ≡ Some x → order k x ≡ Less
+below_at k no_pairs i x b e = absurd (cc)
+below_at k (pair l a ps) zero x b e = let s : l ≡ x = cc in ap (order k) (sym s) ∙ b.0
+below_at k (pair l a ps) (suc i) x b e = below_at k ps i x b.1 e
 
 -- all keys before a place are less than the one there
 pub less_before_place : (ps : Pairs) (i : ℕ) (x : Tree) → IsRising ps → AllRegularPairs ps → slice_get (firsts ps) i ≡ Some x → AllByRecursion (λ y. order y x ≡ Less) (take i (firsts ps))
@@ -49,15 +41,7 @@ unfolding AllRegularPairs
 less_before_place no_pairs i x h r e = absurd (cc)
 less_before_place (pair k a ps) zero x h r e = tt
 less_before_place (pair k a ps) (suc i) x h r e =
-    ((less_than_later k a ps i x h r e).0, less_before_place ps i x (tail_rising k a ps h) r.2 e)
-
-pub next_key : (xs : List Tree) (n : ℕ) (x : Tree) → slice_get xs n ≡ Some x → take n xs ++ x ∷ [] ≡ take (n + 1) xs
-next_key xs n x e = sym (ap (λ k. take k xs) (add-one n) ∙ at xs n e)
-  where
-    at : (xs : List Tree) (n : ℕ) → slice_get xs n ≡ Some x → take (suc n) xs ≡ take n xs ++ x ∷ []
-    at [] n e = absurd (cc)
-    at (y ∷ ys) zero e = let s : y ≡ x = cc in ap (λ z. z ∷ []) s
-    at (y ∷ ys) (suc n) e = ap (λ zs. y ∷ zs) (at ys n e)
+    (below_at k ps i x (below_all k a ps r.0 r.2 h) e, less_before_place ps i x (tail_rising k a ps h) r.2 e)
 
 -- the sizes of the first keys are at most those of the table
 pub keys_high : (ps : Pairs) (n : ℕ) → trees_height (trees (take n (firsts ps))) ≤ pairs_height ps
@@ -78,21 +62,17 @@ keys_long no_pairs (suc n) = omega arith
 keys_long (pair k a ps) zero = omega arith
 keys_long (pair k a ps) (suc n) = omega (arith, keys_long ps n)
 
-pub small : (m h w : ℕ) → m ≤ MOST_ELEMENTS → h ≤ MOST_VALUE_HEIGHT → w ≤ MOST_WEIGHT → sizes_fault m h w ≡ None
-unfolding sizes_fault
-small m h w i j k = grind (arith, nat_tests)
-
 -- the list of the first keys is small
 pub keys_small : (t : Tree) (n : ℕ) → IsTable t → IsRegular t → size_fault (list (trees (take n (keys_of t)))) ≡ None
 unfolding size_fault IsRegular
 keys_small (number m) n h r = absurd h
 keys_small (text b) n h r = absurd h
 keys_small (compound ts) n h r = absurd h
-keys_small (list no_trees) zero h r = small 0 0 5 (omega arith) (omega arith) (omega arith)
-keys_small (list no_trees) (suc n) h r = small 0 0 5 (omega arith) (omega arith) (omega arith)
+keys_small (list no_trees) zero h r = no_fault 0 0 5 (omega arith) (omega arith) (omega arith)
+keys_small (list no_trees) (suc n) h r = no_fault 0 0 5 (omega arith) (omega arith) (omega arith)
 keys_small (list (more u us)) n h r = absurd h
 keys_small (table ps) n h r =
-    small (count (trees (take n (firsts ps)))) (trees_height (trees (take n (firsts ps)))) (trees_weight (trees (take n (firsts ps))) + 5)
+    no_fault (count (trees (take n (firsts ps)))) (trees_height (trees (take n (firsts ps)))) (trees_weight (trees (take n (firsts ps))) + 5)
     (omega (arith, keys_long ps n, r.0.0)) (omega (arith, keys_high ps n, r.0.1)) (omega (arith, keys_heavy ps n, r.0.2))
 
 -- the next key goes last
@@ -104,7 +84,7 @@ key_added (compound ts) n x h r e = absurd h
 key_added (list no_trees) n x h r e = absurd (cc)
 key_added (list (more u us)) n x h r e = absurd h
 key_added (table ps) n x h r e =
-    add_last x (take n (firsts ps)) (less_before_place ps n x r.2 r.3 e) ∙ next_key (firsts ps) n x e
+    add_last x (take n (firsts ps)) (less_before_place ps n x r.2 r.3 e) ∙ take_next (firsts ps) n x e
 
 -- the first so many keys
 pub record HasKeys (t keys : Tree) : Type 0 where
@@ -138,4 +118,4 @@ key_fault t keys key f i r h e m =
 
 pub all_keys : (t keys : Tree) → HasKeys t keys → slice_get (keys_of t) (length_of keys) ≡ None → IsAnswer (Ok (list (trees (keys_of t)))) (Ok keys)
 all_keys t keys h e =
-    inl (ap Ok (h.is ∙ ap (λ xs. list (trees xs)) (take_all (keys_of t) (length_of keys) (nothing_left (keys_of t) (length_of keys) e))))
+    inl (ap Ok (h.is ∙ ap (λ xs. list (trees xs)) (take_all (length_of keys) (keys_of t) (nothing_left (keys_of t) (length_of keys) e))))

@@ -1,29 +1,26 @@
 -- The parts of lists and tables of known types, and lists and tables of such parts.
-use Rattle.std.proofs.Common.{◌≡◌, refl, sym, ap, subst, List, [], ◌∷◌, inl}
+use Rattle.std.proofs.Common.{refl, sym, subst, List, [], ◌∷◌, inl}
 use Rattle.std.specs.Ordering.{match_ordering}
 use Rattle.std.specs.declared.cmp.Ordering.{Ordering}
 use Rattle.std.specs.declared.cmp.Ordering.TheVariants.{Less, Equal, Greater}
 use Rattle.abc_num.specs.declared.types.Ground.{Ground}
 use Rattle.abc_num.specs.declared.types.Ground.TheVariants as type
-use Rattle.abc_value.specs.Tree.{Tree, Pairs, number, text, compound, list, table, trees, pairs, listed_pairs, no_trees, more, no_pairs, pair}
+use Rattle.abc_value.specs.Tree.{Tree, number, text, compound, list, table, trees, pairs, no_trees, more}
 use Rattle.abc_value.specs.Order.{order}
 use Rattle.abc_value.specs.Types.{has, all_have, pairs_have}
 use Rattle.abc_value.specs.Parts.{parts_of, pairs_of}
 use Rattle.abc_value.specs.Changes.{add, with_pair}
 use Rattle.abc_value.proofs.Grounds.{list_part, key_part, associate_part}
-use Rattle.abc_predef.proofs.Elements.{trees_listed}
+use Rattle.abc_value.proofs.Rows.{trees_listed, pairs_listed}
 
 -- lists of one type
-same_element : (g e : Ground) → type.List g ≡ type.List e → e ≡ g
-same_element g e h = sym (list_part g e h)
-
 pub typed_parts : (t : Tree) (g : Ground) → has t (type.List g) → all_have (trees (parts_of t)) g
 typed_parts (number n) g h = tt
 typed_parts (text b) g h = tt
 typed_parts (compound ts) g h = let e = h.1 in absurd (cc)
 typed_parts (list no_trees) g h = tt
 typed_parts (list (more t ts)) g h =
-    let e = same_element g h.0 h.1 in (subst (has t) e h.2, subst (λ us. all_have us g) (sym (trees_listed ts)) (subst (all_have ts) e h.3))
+    let e = sym (list_part g h.0 h.1) in (subst (has t) e h.2, subst (λ us. all_have us g) (sym (trees_listed ts)) (subst (all_have ts) e h.3))
 typed_parts (table ps) g h = let e = h.2 in absurd (cc)
 
 add_by : (e x : Tree) (xs : List Tree) (g : Ground) (o : Ordering) → has e g → has x g → all_have (trees xs) g → all_have (trees (add e xs)) g → all_have (trees (match_ordering o (x ∷ add e xs) (e ∷ x ∷ xs) (e ∷ x ∷ xs))) g
@@ -40,16 +37,6 @@ list_of_type [] g h = inl (g, refl)
 list_of_type (x ∷ xs) g h = (g, refl, h.0, h.1)
 
 -- tables of two types
-pairs_listed : (ps : Pairs) → pairs (listed_pairs ps) ≡ ps
-pairs_listed no_pairs = refl
-pairs_listed (pair k a ps) = ap (pair k a) (pairs_listed ps)
-
-same_key : (k a l b : Ground) → type.Table k a ≡ type.Table l b → l ≡ k
-same_key k a l b h = sym (key_part k a l b h)
-
-same_associate : (k a l b : Ground) → type.Table k a ≡ type.Table l b → b ≡ a
-same_associate k a l b h = sym (associate_part k a l b h)
-
 pub typed_pairs : (t : Tree) (k a : Ground) → has t (type.Table k a) → pairs_have (pairs (pairs_of t)) k a
 typed_pairs (number n) k a h = tt
 typed_pairs (text b) k a h = tt
@@ -57,7 +44,7 @@ typed_pairs (compound ts) k a h = tt
 typed_pairs (list ts) k a h = tt
 typed_pairs (table ps) k a h =
     subst (λ qs. pairs_have qs k a) (sym (pairs_listed ps))
-    (subst (λ l. pairs_have ps l a) (same_key k a h.0 h.1 h.2) (subst (λ b. pairs_have ps h.0 b) (same_associate k a h.0 h.1 h.2) h.3))
+    (subst (λ l. pairs_have ps l a) (sym (key_part k a h.0 h.1 h.2)) (subst (λ b. pairs_have ps h.0 b) (sym (associate_part k a h.0 h.1 h.2)) h.3))
 
 with_by : (k a : Tree) (p : Tree × Tree) (ps : List (Tree × Tree)) (g l : Ground) (o : Ordering) → has k g → has a l → has p.0 g × has p.1 l × pairs_have (pairs ps) g l → pairs_have (pairs (with_pair k a ps)) g l → pairs_have (pairs (match_ordering o (p ∷ with_pair k a ps) ((k, a) ∷ ps) ((k, a) ∷ p ∷ ps))) g l
 with_by k a p ps g l Less h i j m = (j.0, j.1, m)

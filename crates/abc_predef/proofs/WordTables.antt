@@ -1,7 +1,7 @@
 -- The table of the words of a text, while it is made.
-use Rattle.std.proofs.Common.{◌≡◌, ◌≢◌, ℕ, zero, suc, ◌+◌, ◌*◌, ◌<◌, ◌≤◌, min, List, [], ◌∷◌, ◌++◌, length, take, drop, refl, sym, ap, ◌∙◌, arith, Some, not}
+use Rattle.std.proofs.Common.{◌≡◌, ◌≢◌, ℕ, ◌+◌, ◌*◌, ◌<◌, ◌≤◌, min, List, [], ◌∷◌, ◌++◌, length, take, drop, refl, sym, ap, ◌∙◌, arith, Some, not}
 use Rattle.std.specs.List.{filter, position_or_len, before_first, after_first}
-use Rattle.std.proofs.lemmas.List.{append_assoc, length-drop, length-take-le}
+use Rattle.std.proofs.lemmas.List.{append_assoc, drop_min, length-drop, length-take-le}
 use Rattle.abc_num.specs.declared.limits.TheConstants.{MOST_ELEMENTS}
 use Rattle.abc_value.specs.declared.faults.ValueFault.{ValueFault}
 use Rattle.abc_value.specs.declared.faults.ValueFault.TheVariants.{Memory}
@@ -10,7 +10,7 @@ use Rattle.abc_value.specs.Sizes.{size_fault}
 use Rattle.abc_value.specs.Regular.{AreCharacters}
 use Rattle.abc_value.proofs.Itemised.{only_memory}
 use Rattle.std.proofs.lemmas.List.Sums.{prefix_len-le-length}
-use Rattle.abc_predef.proofs.Codes.{characters-drop}
+use Rattle.abc_value.proofs.Characters.{characters-drop}
 use Rattle.abc_predef.specs.Texts.{is_space, has_characters, words_of, numbered}
 use Rattle.abc_predef.specs.Places.{with_word}
 use Rattle.abc_predef.proofs.Words.{spent, words_step, with_next, next_is, next_spent, next_full, words_small}
@@ -28,12 +28,6 @@ pub record HasWords (b : List ℕ) (words : Tree) (rest : List ℕ) : Type 0 whe
 pub no_words : (b : List ℕ) (words : Tree) → AreCharacters b → words ≡ table_of [] → HasWords b words b
 no_words b words h e = record { done = []; is = e; left = refl; room = λ _. omega arith; full = omega arith; characters = h; short = omega arith }
 
-drop_min : (xs : List ℕ) (n : ℕ) → drop (min n (length xs)) xs ≡ drop n xs
-drop_min [] zero = refl
-drop_min [] (suc n) = ap (λ m. drop {A = ℕ} m []) (let e : min (suc n) 0 ≡ 0 = omega arith in e)
-drop_min (x ∷ xs) zero = ap (λ m. drop m (x ∷ xs)) (let e : min 0 (suc (length xs)) ≡ 0 = omega arith in e)
-drop_min (x ∷ xs) (suc n) = ap (λ m. drop m (x ∷ xs)) (let e : min (suc n) (suc (length xs)) ≡ suc (min n (length xs)) = omega arith in e) ∙ drop_min xs n
-
 module _ (b : List ℕ) (words : Tree) (rest : List ℕ) (n : ℕ) (h : HasWords b words rest) (some : 0 < length rest) (e : n ≡ position_or_len is_space rest) where
   pub end_within : n ≤ length rest
   end_within = omega (arith, e, prefix_len-le-length (λ c. not (is_space c)) rest)
@@ -46,7 +40,7 @@ module _ (b : List ℕ) (words : Tree) (rest : List ℕ) (n : ℕ) (h : HasWords
       h.left ∙ ap (λ ws. h.done ++ ws) (words_step rest)
       ∙ sym (append_assoc h.done (filter has_characters (before_first is_space rest ∷ [])) (words_of (after_first is_space rest)))
       ∙ ap (λ k. with_next h.done (take k rest) ++ words_of (drop (k + 1) rest)) (sym e)
-      ∙ ap (λ c. with_next h.done (take n rest) ++ words_of c) (sym (drop_min rest (n + 1)))
+      ∙ ap (λ c. with_next h.done (take n rest) ++ words_of c) (sym (drop_min (n + 1) rest))
 
   word_length : length (take n rest) ≡ n
   word_length = length-take-le n rest end_within
@@ -67,7 +61,3 @@ module _ (b : List ℕ) (words : Tree) (rest : List ℕ) (n : ℕ) (h : HasWords
       only_memory (with_word words (take n rest)) f
       (ap size_fault (next_is words h.done (take n rest) h.is)
       ∙ words_small (with_next h.done (take n rest)) (next_full h.done (take n rest) h.full) (omega (arith, next_spent h.done (take n rest), word_length, end_within, h.room some, l))) m
-
-append_nothing : (xs : List (List ℕ)) → xs ++ [] ≡ xs
-append_nothing [] = refl
-append_nothing (x ∷ xs) = ap (λ ys. x ∷ ys) (append_nothing xs)

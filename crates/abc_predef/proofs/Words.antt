@@ -1,5 +1,5 @@
 -- The words of a text, and the table of them.
-use Rattle.std.proofs.Common.{◌≡◌, ℕ, zero, suc, ◌+◌, ◌*◌, ◌<◌, ◌≤◌, List, [], ◌∷◌, ◌++◌, length, drop, refl, sym, ap, ◌∙◌, arith, Some, None, inl, inr, pos, Bool, true, false, not, cond}
+use Rattle.std.proofs.Common.{◌≡◌, ℕ, suc, ◌+◌, ◌*◌, ◌<◌, ◌≤◌, List, [], ◌∷◌, ◌++◌, length, refl, sym, ap, ◌∙◌, arith, Some, None, inl, inr, pos, Bool, true, false, not, cond}
 use Rattle.std.specs.Prelude.{nat_lt}
 use Rattle.std.specs.List.{AllByRecursion, filter, slice_split, position, position_or_len, before_first, after_first}
 use Rattle.std.specs.Ordering.{match_ordering}
@@ -9,7 +9,7 @@ use Rattle.std.specs.declared.cmp.Ordering.TheVariants.{Less}
 use Rattle.std.proofs.lemmas.Bool.{cases_lt}
 use Rattle.std.proofs.lemmas.Bool.Decides.{nat_tests}
 use Rattle.std.proofs.lemmas.Int.{ints}
-use Rattle.std.proofs.lemmas.List.{length-append}
+use Rattle.std.proofs.lemmas.List.{length-append, append-nil, take_all, drop_all}
 use Rattle.std.proofs.lemmas.List.Elements.{filter-append}
 use Rattle.std.proofs.lemmas.List.Splits.{slice_split_first, slice_split_none}
 use Rattle.std.proofs.lemmas.List.Sums.{fails_before_first, prefix_len-le-length}
@@ -20,20 +20,10 @@ use Rattle.abc_value.specs.Order.{order}
 use Rattle.abc_value.specs.Sizes.{length_of, pairs_height, pairs_weight, count_pairs, size_fault}
 use Rattle.abc_value.specs.Parts.{pairs_of}
 use Rattle.abc_value.specs.Changes.{with_pair}
-use Rattle.abc_value.proofs.Rows.{listed_pairs_pairs, count_pairs_pairs, take_all}
+use Rattle.abc_value.proofs.Adding.{no_fault}
+use Rattle.abc_value.proofs.Rows.{pairs_of_table, count_pairs_pairs}
 use Rattle.abc_predef.specs.Texts.{is_space, has_characters, words_of, numbered}
 use Rattle.abc_predef.specs.Places.{with_word}
-use Rattle.abc_predef.proofs.TableKeys.{small}
-
-append_none : {X : Type 0} → (xs : List X) → xs ++ [] ≡ xs
-append_none [] = refl
-append_none (x ∷ xs) = ap (λ ys. x ∷ ys) (append_none xs)
-
-drop_all : {X : Type 0} → (xs : List X) (n : ℕ) → length xs ≤ n → drop n xs ≡ []
-drop_all [] zero h = refl
-drop_all [] (suc n) h = refl
-drop_all (x ∷ xs) zero h = absurd (omega arith)
-drop_all (x ∷ xs) (suc n) h = drop_all xs n (omega arith)
 
 no_space : (b : List ℕ) → length b ≤ position_or_len is_space b → slice_split is_space b ≡ b ∷ []
 no_space b l = slice_split_none is_space b (λ k d h. fails_before_first is_space b k d (omega arith))
@@ -43,9 +33,9 @@ pub words_step : (b : List ℕ) → words_of b ≡ filter has_characters (before
 words_step b = elim (cases_lt (position_or_len is_space b) (length b)) [
   | inl l ↦ ap (filter has_characters) (slice_split_first is_space b 0 l) ∙ filter-append has_characters (before_first is_space b ∷ []) (slice_split is_space (after_first is_space b))
   | inr l ↦ ap (filter has_characters) (no_space b l)
-      ∙ sym (append_none (filter has_characters (b ∷ [])))
-      ∙ ap (λ c. filter has_characters (c ∷ []) ++ []) (sym (take_all b (position_or_len is_space b) l))
-      ∙ ap (λ c. filter has_characters (before_first is_space b ∷ []) ++ words_of c) (sym (drop_all b (position_or_len is_space b + 1) (omega arith)))
+      ∙ sym (append-nil (filter has_characters (b ∷ [])))
+      ∙ ap (λ c. filter has_characters (c ∷ []) ++ []) (sym (take_all (position_or_len is_space b) b l))
+      ∙ ap (λ c. filter has_characters (before_first is_space b ∷ []) ++ words_of c) (sym (drop_all (position_or_len is_space b + 1) b (omega arith)))
 ]
 
 -- a pair goes behind those with lesser keys
@@ -68,10 +58,6 @@ numbered_more n m (c ∷ bs) b e = ap (λ ps. (number (whole_number (pos n)), te
 numbered_length : (n : ℕ) (bs : List (List ℕ)) → length (numbered n bs) ≡ length bs
 numbered_length n [] = refl
 numbered_length n (b ∷ bs) = ap suc (numbered_length (suc n) bs)
-
-pairs_of_table : (ps : List (Tree × Tree)) → pairs_of (table_of ps) ≡ ps
-pairs_of_table [] = refl
-pairs_of_table (p ∷ ps) = listed_pairs_pairs (p ∷ ps)
 
 length_of_table : (ps : List (Tree × Tree)) → length_of (table_of ps) ≡ length ps
 length_of_table [] = refl
@@ -112,10 +98,10 @@ numbered_height n (b ∷ bs) = omega (arith, numbered_height (suc n) bs)
 
 pub words_small : (bs : List (List ℕ)) → 2 * length bs ≤ spent bs → spent bs ≤ MOST_ELEMENTS + 1 → size_fault (table_of (numbered 1 bs)) ≡ None
 unfolding size_fault
-words_small [] h k = small 0 0 5 (omega arith) (omega arith) (omega arith)
+words_small [] h k = no_fault 0 0 5 (omega arith) (omega arith) (omega arith)
 words_small (b ∷ bs) h k =
     let ps = numbered 1 (b ∷ bs) in
-    small (count_pairs (pairs ps)) (pairs_height (pairs ps)) (pairs_weight (pairs ps) + 5)
+    no_fault (count_pairs (pairs ps)) (pairs_height (pairs ps)) (pairs_weight (pairs ps) + 5)
     (omega (arith, count_pairs_pairs ps, numbered_length 1 (b ∷ bs), h, k)) (omega (arith, numbered_height 1 (b ∷ bs))) (omega (arith, numbered_weight 1 (b ∷ bs), h, k))
 
 by_test : (b : List ℕ) (t : Bool) → nat_lt (position_or_len is_space b) (length b) ≡ t → cond t (Some (position_or_len is_space b)) None ≡ None → length b ≤ position_or_len is_space b
@@ -133,7 +119,7 @@ abbrev pub with_next : List (List ℕ) → List ℕ → List (List ℕ)
 with_next done b = done ++ filter has_characters (b ∷ [])
 
 pub next_is : (words : Tree) (done : List (List ℕ)) (b : List ℕ) → words ≡ table_of (numbered 1 done) → with_word words b ≡ table_of (numbered 1 (with_next done b))
-next_is words done [] e = e ∙ ap (λ bs. table_of (numbered 1 bs)) (sym (append_none done))
+next_is words done [] e = e ∙ ap (λ bs. table_of (numbered 1 bs)) (sym (append-nil done))
 next_is words done (c ∷ b) e = word_added words done c b e
 
 pub next_spent : (done : List (List ℕ)) (b : List ℕ) → spent (with_next done b) ≤ spent done + length b + 1

@@ -14,7 +14,7 @@ use Rattle.abc_value.specs.Sizes.{trees_height, trees_weight, pairs_height, pair
 use Rattle.abc_value.specs.Changes.{add, with_pair, associate_of}
 use Rattle.abc_value.specs.Parts.{IsTable, parts_of, pairs_of}
 use Rattle.abc_value.proofs.Adding.{add_adds, small_sizes}
-use Rattle.abc_value.proofs.Rows.{listed_trees, count_trees, listed_pairs_pairs, count_pairs_pairs}
+use Rattle.abc_value.proofs.Rows.{listed_trees, count_trees, count_pairs_pairs, pairs_of_table}
 use Rattle.abc_print.specs.declared.frames.Pair.{Pair}
 use Rattle.abc_print.specs.declared.faults.LiteralFault.{LiteralFault}
 use Rattle.abc_print.specs.Literals.{by_fault, if_small, in_order, listed, with_new, placed, tabled}
@@ -158,10 +158,6 @@ none_placed whole rest e = record { is = ([], refl, pairs_onto_none rest ∙ ap 
 table_is : (ps : List (Tree × Tree)) → IsTable (table_of ps)
 table_is [] = tt
 table_is (p ∷ ps) = tt
-
-pairs_of_table : (ps : List (Tree × Tree)) → pairs_of (table_of ps) ≡ ps
-pairs_of_table [] = refl
-pairs_of_table (p ∷ ps) = listed_pairs_pairs (p ∷ ps)
 
 some_first : (k a : Tree) (p : Tree × Tree) (ps : List (Tree × Tree)) (r : Ordering) → table (pairs (match_ordering r (p ∷ with_pair k a ps) ((k, a) ∷ ps) ((k, a) ∷ p ∷ ps))) ≡ table_of (match_ordering r (p ∷ with_pair k a ps) ((k, a) ∷ ps) ((k, a) ∷ p ∷ ps))
 some_first k a p ps Less = refl

@@ -1,8 +1,7 @@
 -- The characters of a text, one at a time.
-use Rattle.std.proofs.Common.{◌≡◌, ℕ, zero, suc, ◌+◌, ◌<◌, ◌≤◌, Bool, true, false, List, [], ◌∷◌, ◌++◌, length, drop, get_or, Option, Some, None, refl, sym, ap, ◌∙◌, subst, arith, length-append, inl, inr}
+use Rattle.std.proofs.Common.{◌≡◌, ℕ, ◌+◌, ◌<◌, ◌≤◌, Bool, true, false, List, [], ◌∷◌, ◌++◌, length, drop, get_or, Option, Some, None, refl, sym, ap, ◌∙◌, subst, arith, length-append, inl, inr}
 use Rattle.std.specs.Prelude.{◌⊎◌, ◌==◌, ◌||◌, if◌then◌else◌}
 use Rattle.std.proofs.lemmas.List.{append_assoc, drop_more}
-use Rattle.std.proofs.lemmas.Bool.Decides.{nat_tests}
 use Rattle.abc_value.specs.Regular.{IsCharacter, AreCharacters}
 use Rattle.abc_value.proofs.Itemised.{characters_at}
 use Rattle.abc_tokens.specs.Bytes.{backquote}
@@ -82,12 +81,3 @@ one_read q bytes out new at w r a h e n =
       short = omega (arith, ap length n, length-append out (c ∷ []), r.short);
       within = omega (arith, width_small q c (get_or bytes (at + 1) 0) w e);
     }
-
-same_byte : (q : ℕ) → (q == q) ≡ true
-same_byte q = grind (arith, nat_tests)
-
-drop_all : (b : List ℕ) (i : ℕ) → length b ≤ i → drop i b ≡ []
-drop_all [] zero h = refl
-drop_all [] (suc i) h = refl
-drop_all (c ∷ cs) zero h = absurd (omega arith)
-drop_all (c ∷ cs) (suc i) h = drop_all cs i (omega arith)

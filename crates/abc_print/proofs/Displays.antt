@@ -4,7 +4,7 @@ use Rattle.std.specs.Prelude.{codes}
 use Rattle.std.specs.List.{flat_map}
 use Rattle.std.proofs.lemmas.List.{append_assoc, append-nil}
 use Rattle.abc_num.specs.Number.{Fraction}
-use Rattle.abc_value.specs.Tree.{Tree, Trees, Pairs, number, text, list, compound, table, trees, empty, no_trees, more, no_pairs, pair}
+use Rattle.abc_value.specs.Tree.{Tree, Trees, Pairs, number, text, list, compound, table, no_trees, more, no_pairs, pair}
 use Rattle.abc_value.specs.Tree as tree
 use Rattle.abc_value.specs.Sizes.{count}
 use Rattle.abc_value.specs.Regular.{IsSmall, IsRegular, AllRegular, AllRegularPairs}
@@ -16,12 +16,13 @@ use Rattle.abc_print.specs.declared.frames.Lexeme.TheVariants as lexeme
 use Rattle.abc_print.specs.Lexemes.{IsLiteralLine}
 use Rattle.abc_print.specs.Literals.{IsPart, AreParts, ArePairs, sign, fielded, if_small}
 use Rattle.abc_print.specs.Literals as spells
-use Rattle.abc_print.proofs.TokenFacts.{OneReading}
+use Rattle.abc_tokens.proofs.Faults.{OneReading}
 use Rattle.abc_print.proofs.Pieces.{Reads, Fits, IsFree, begins_apart, apart_fits, end_reads, spelled_line}
 use Rattle.abc_print.proofs.SignPieces.{open_piece, close_piece, brace_piece, unbrace_piece, bracket_piece, colon_piece, comma_piece, semicolon_piece}
 use Rattle.abc_print.proofs.NumeralPieces.{number_piece}
 use Rattle.abc_print.proofs.TextPieces.{text_piece}
-use Rattle.abc_print.proofs.Ordered.{small, trees_listed, list_back, pair_list, table_back}
+use Rattle.abc_print.proofs.Ordered.{small, list_back, pair_list, table_back}
+use Rattle.abc_value.proofs.Rows.{trees_listed}
 
 -- the bytes, before others that fit, are read as lexemes that stand in this relation to those behind them
 abbrev Before : List ℕ → (List Lexeme → List Lexeme → Type 0) → Type 0

@@ -1,7 +1,7 @@
 -- All tokens of a line.
-use Rattle.std.proofs.Common.{◌≡◌, ℕ, zero, suc, Bool, ◌+◌, ◌<◌, ◌≤◌, List, [], ◌∷◌, ◌++◌, length, map, drop, get_or, Ok, Err, refl, sym, ap, ◌∙◌, subst, arith}
+use Rattle.std.proofs.Common.{◌≡◌, ℕ, ◌+◌, ◌<◌, ◌≤◌, List, [], ◌∷◌, ◌++◌, length, map, drop, get_or, Ok, Err, refl, sym, ap, ◌∙◌, subst, arith}
 use Rattle.std.specs.Prelude.{◌↔◌}
-use Rattle.std.proofs.lemmas.List.{append-nil, drop_more, get_or-map, length-map}
+use Rattle.std.proofs.lemmas.List.{append-nil, drop_all, drop_more, get_or-map, length-map}
 use Rattle.abc_num.specs.Number.{Fraction}
 use Rattle.abc_value.specs.Tree.{number}
 use Rattle.abc_tokens.specs.declared.kinds.Token.{Token}
@@ -48,15 +48,9 @@ module _ (line : List ℕ) (ts : List Token) (all new : List Lexeme) (i : ℕ) (
       r us ls ((as_read us ls).0 (subst (λ z. Rest all z s ls) left ((a ls).0 p)))
   never_next fault.Memory a r f ls p = cc
 
-drop_end : (ts : List Seen) (i : ℕ) → length ts ≤ i → drop i ts ≡ []
-drop_end [] zero h = refl
-drop_end [] (suc i) h = refl
-drop_end (t ∷ ts) zero h = absurd (omega arith)
-drop_end (t ∷ ts) (suc i) h = drop_end ts i (omega arith)
-
 module _ (line : List ℕ) (ts : List Token) (all : List Lexeme) (i : ℕ) (h : length ts ≤ i) where
   nothing_left : drop i (map (seen line) ts) ≡ []
-  nothing_left = drop_end (map (seen line) ts) i (omega (arith, length-map ts (seen line), h))
+  nothing_left = drop_all i (map (seen line) ts) (omega (arith, length-map ts (seen line), h))
 
   abbrev pub at_last : State → Type 0
   at_last s = IsAt (map (seen line) ts) all (drop i (map (seen line) ts)) s
@@ -76,10 +70,10 @@ module _ (line : List ℕ) (ts : List Token) (all : List Lexeme) (i : ℕ) (h : 
       let b = to_end (state.Numbered x) a ls in
       (λ p. let r = b.0 p in r.1 ∙ ap (λ z. all ++ z) r.2 ∙ sym e, λ q. b.1 (lexeme.Value (number x) ∷ [], q ∙ e, refl))
 
-  pub at_sign : (n : Bool) → at_last (state.Signed n) → (ls : List Lexeme) → ¬ (lexed (map (seen line) ts) state.Start ls)
+  -- a sign or a division may not end the tokens
+  pub at_unfinished : (s : State) → at_last s → (s ≡ state.Start → ⊥) → ((x : Fraction) → s ≡ state.Numbered x → ⊥) → (ls : List Lexeme) → ¬ (lexed (map (seen line) ts) state.Start ls)
   unfolding lexed
-  at_sign n a ls p = let r = (to_end (state.Signed n) a ls).0 p in r.2
-
-  pub at_divisor : (x : Fraction) → at_last (state.Divided x) → (ls : List Lexeme) → ¬ (lexed (map (seen line) ts) state.Start ls)
-  unfolding lexed
-  at_divisor x a ls p = let r = (to_end (state.Divided x) a ls).0 p in r.2
+  at_unfinished state.Start a n m ls p = n refl
+  at_unfinished (state.Signed b) a n m ls p = let r = (to_end (state.Signed b) a ls).0 p in r.2
+  at_unfinished (state.Numbered x) a n m ls p = m x refl
+  at_unfinished (state.Divided x) a n m ls p = let r = (to_end (state.Divided x) a ls).0 p in r.2

@@ -4,8 +4,8 @@ use Rattle.std.specs.Prelude.{◌↔◌, IfOk, IfErr}
 use Rattle.abc_value.specs.Tree.{Tree}
 use Rattle.abc_tokens.specs.declared.kinds.Token.{Token}
 use Rattle.abc_tokens.specs.declared.kinds.TokenFault.{TokenFault}
-use Rattle.abc_tokens.specs.declared.kinds.TokenFault.TheVariants as token_fault
 use Rattle.abc_tokens.specs.Tokens.{AreTokens, HasFault}
+use Rattle.abc_tokens.proofs.Faults.{OneReading, no_tokens}
 use Rattle.abc_print.specs.declared.faults.LiteralFault.{LiteralFault}
 use Rattle.abc_print.specs.declared.faults.LiteralFault.TheVariants as fault
 use Rattle.abc_print.specs.declared.frames.Lexeme.{Lexeme}
@@ -15,7 +15,6 @@ use Rattle.abc_print.specs.Lexing.{lexed}
 use Rattle.abc_print.specs.Machine.{Gives, value_of, unread}
 use Rattle.abc_print.proofs.Complete.{complete}
 use Rattle.abc_print.proofs.Sound.{sound}
-use Rattle.abc_print.proofs.TokenFacts.{OneReading, no_tokens}
 use Rattle.abc_print.proofs.Words.{to_lexed, are_lexemes}
 
 module _ (b : List ℕ) (ts : List Token) (a : AreTokens b ts) where
@@ -49,7 +48,4 @@ module _ (b : List ℕ) (ts : List Token) (a : AreTokens b ts) where
     is_none (Err fault.Memory) g = λ e. cc
 
 pub no_line : OneReading → (b : List ℕ) (f : TokenFault) → HasFault b f → unread f ≡ fault.BadInput → (t : Tree) → ¬ (IsLiteralLine b t)
-no_line law b token_fault.BadByte h e t l = no_tokens law b token_fault.BadByte l.0 (λ k. cc) h l.1
-no_line law b token_fault.OpenText h e t l = no_tokens law b token_fault.OpenText l.0 (λ k. cc) h l.1
-no_line law b token_fault.BadNumber h e t l = no_tokens law b token_fault.BadNumber l.0 (λ k. cc) h l.1
-no_line law b token_fault.Memory h e t l = cc
+no_line law b f h e t l = no_tokens law b f h (λ k. let bad : fault.Memory ≡ fault.BadInput = ap unread (sym k) ∙ e in cc) l.0 l.1

@@ -2,6 +2,7 @@
 use Rattle.std.proofs.Common.{◌≡◌, ℕ, suc, ◌+◌, Bool, true, false, ◌&&◌, ◌||◌, cond, List, [], ◌∷◌, ◌++◌, length, drop, Option, Some, refl, sym, ap, ◌∙◌, subst, arith, inl, inr, None, length-append}
 use Rattle.std.specs.Prelude.{All, ◌==◌, ◌⊎◌}
 use Rattle.std.specs.List.{list_all}
+use Rattle.std.proofs.lemmas.Bool.{or_left}
 use Rattle.std.proofs.lemmas.Bool.Decides.{nat_tests}
 use Rattle.std.proofs.lemmas.List.{append_assoc}
 use Rattle.std.proofs.lemmas.List.Elements.{All-nil, All-cons, All-head, All-tail}
@@ -13,17 +14,12 @@ use Rattle.abc_tokens.specs.declared.kinds.TokenKind.TheVariants as kind
 use Rattle.abc_tokens.specs.Bytes.{is_character, is_digit, is_small, is_capital, point, begins}
 use Rattle.abc_tokens.specs.Tokens.{IsSound}
 use Rattle.abc_tokens.specs.Scanned.{digits, begins_decimals, decimals, number_length, word_in_front, tail_length, is_double, is_single}
+use Rattle.abc_tokens.proofs.NumberTokens.{digit_test, digits_more, no_number}
 use Rattle.abc_print.specs.declared.lexing.Class.TheVariants as class
 use Rattle.abc_print.specs.Lexemes.{Seen, IsClass, class_of, IsValueOf}
 use Rattle.abc_print.proofs.Pieces.{Fits, AreSeen, begins_word, word_seen}
 
 -- ---- how many bytes a number has
-
-is_one : (c : ℕ) → IsDigit c → is_digit c ≡ true
-is_one c h = grind (arith, nat_tests)
-
-digits_more : (c : ℕ) (bytes : List ℕ) → is_digit c ≡ true → digits (c ∷ bytes) ≡ suc (digits bytes)
-digits_more c bytes h = let one : 1 + digits bytes ≡ suc (digits bytes) = omega arith in ap (λ x. cond x (1 + digits bytes) 0) h ∙ one
 
 digits_none : (rest : List ℕ) → begins is_digit rest ≡ false → digits rest ≡ 0
 digits_none [] h = refl
@@ -31,7 +27,7 @@ digits_none (c ∷ rest) h = ap (λ x. cond x (1 + digits rest) 0) h
 
 digits_all : (b rest : List ℕ) → All IsDigit b → begins is_digit rest ≡ false → digits (b ++ rest) ≡ length b
 digits_all [] rest a h = digits_none rest h
-digits_all (c ∷ b) rest a h = digits_more c (b ++ rest) (is_one c (All-head IsDigit c b a)) ∙ ap suc (digits_all b rest (All-tail IsDigit c b a) h)
+digits_all (c ∷ b) rest a h = digits_more c (b ++ rest) (digit_test c (All-head IsDigit c b a)) ∙ ap suc (digits_all b rest (All-tail IsDigit c b a) h)
 
 -- the digits in front, and the decimals of what stands behind them
 by_digits : (b rest : List ℕ) → All IsDigit b → begins is_digit rest ≡ false → number_length (b ++ rest) ≡ length b + decimals rest
@@ -53,7 +49,7 @@ no_decimals (c ∷ rest) h = ap (λ z. cond (z && begins is_digit rest) (suc (di
 
 first_digit : (decs rest : List ℕ) → IsDigits decs → begins is_digit (decs ++ rest) ≡ true
 first_digit [] rest h = absurd (h.0 refl)
-first_digit (c ∷ decs) rest h = is_one c (All-head IsDigit c decs h.1)
+first_digit (c ∷ decs) rest h = digit_test c (All-head IsDigit c decs h.1)
 
 -- a point and the digits behind it
 some_decimals : (decs rest : List ℕ) → IsDigits decs → Fits rest → decimals (point ∷ (decs ++ rest)) ≡ suc (length decs)
@@ -78,9 +74,6 @@ token_length b rest (inr (whole, decs, e, w, h)) fits = subst (λ z. number_leng
 abbrev is_number : ℕ → List ℕ → Bool
 is_number c bytes = is_digit c || begins_decimals (c ∷ bytes)
 
-or_left : (x y : Bool) → x ≡ true → (x || y) ≡ true
-or_left x y h = ap (λ z. z || y) h
-
 by_whole : (c : ℕ) (cs rest whole decs : List ℕ) → c ∷ cs ≡ whole ++ (point ∷ decs) → All IsDigit whole → IsDigits decs → is_number c (cs ++ rest) ≡ true
 by_whole c cs rest [] decs e w h =
     let one : c ≡ point = cc in
@@ -88,20 +81,11 @@ by_whole c cs rest [] decs e w h =
     subst (λ z. is_number z (cs ++ rest) ≡ true) (sym one) (subst (λ z. begins is_digit (z ++ rest) ≡ true) (sym more) (first_digit decs rest h))
 by_whole c cs rest (d ∷ whole) decs e w h =
     let one : c ≡ d = cc in
-    or_left (is_digit c) (begins_decimals (c ∷ (cs ++ rest))) (subst (λ z. is_digit z ≡ true) (sym one) (is_one d (All-head IsDigit d whole w)))
+    or_left (is_digit c) (begins_decimals (c ∷ (cs ++ rest))) (subst (λ z. is_digit z ≡ true) (sym one) (digit_test d (All-head IsDigit d whole w)))
 
 number_first : (c : ℕ) (cs rest : List ℕ) → IsNumberToken (c ∷ cs) → is_number c (cs ++ rest) ≡ true
-number_first c cs rest (inl h) = or_left (is_digit c) (begins_decimals (c ∷ (cs ++ rest))) (is_one c (All-head IsDigit c cs h.1))
+number_first c cs rest (inl h) = or_left (is_digit c) (begins_decimals (c ∷ (cs ++ rest))) (digit_test c (All-head IsDigit c cs h.1))
 number_first c cs rest (inr (whole, decs, e, w, h)) = by_whole c cs rest whole decs e w h
-
--- no bytes are no number
-no_point : (whole decs : List ℕ) → [] ≡ whole ++ (point ∷ decs) → ⊥
-no_point [] decs e = cc
-no_point (c ∷ whole) decs e = cc
-
-no_number : IsNumberToken [] → ⊥
-no_number (inl h) = h.0 refl
-no_number (inr (whole, decs, e, w, h)) = no_point whole decs e
 
 -- a digit or the point
 abbrev IsNumeric : ℕ → Type 0

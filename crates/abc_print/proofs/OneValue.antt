@@ -14,7 +14,7 @@ use Rattle.abc_print.specs.Lexemes.{Seen, seen, class_of, IsValueOf, with_sign, 
 use Rattle.abc_print.specs.Lexing.{Then, text_then, number_then, starts, divides, numbered, at_token, lexed}
 use Rattle.abc_print.specs.Machine.{value_of}
 use Rattle.abc_print.proofs.Complete.{complete}
-use Rattle.abc_print.proofs.TokenFacts.{some_is}
+use Rattle.std.proofs.lemmas.Option.{same_Some}
 use Rattle.abc_print.proofs.Tokenwise.{one_value, one_quotient}
 use Rattle.abc_print.proofs.Words.{to_lexed}
 
@@ -53,7 +53,7 @@ module _ (next : State → List Lexeme → Type 0) (one : (s : State) (ls ms : L
   text_once : (b : List ℕ) (ls ms : List Lexeme) → text_then b (next state.Start) ls → text_then b (next state.Start) ms → ls ≡ ms
   text_once [] ls ms h k = absurd h
   text_once (q ∷ bytes) ls ms h k =
-      let same : k.0 ≡ h.0 = some_is (sym k.1 ∙ h.1) in
+      let same : k.0 ≡ h.0 = same_Some _ _ (sym k.1 ∙ h.1) in
       then_once (lexeme.Value (text h.0)) (next state.Start) (λ us vs. one state.Start us vs tt) ls ms h.2
       (subst (λ cs. Then (lexeme.Value (text cs)) (next state.Start) ms) same k.2)
 
@@ -109,4 +109,4 @@ spells_once line t u h k =
     let tokens : k.0 ≡ h.0 = h.1.only k.0 k.1.found.0 k.1.found.1 in
     let others = subst (λ (us : List Token). HasLexemes (map (seen line) us) k.2) tokens k.3 in
     let lexemes = lexed_once (map (seen line) h.0) state.Start h.2 k.2 tt (to_lexed h.3) (to_lexed others) in
-    some_is (sym (complete t h.2 h.4) ∙ ap value_of lexemes ∙ complete u k.2 k.4)
+    same_Some _ _ (sym (complete t h.2 h.4) ∙ ap value_of lexemes ∙ complete u k.2 k.4)

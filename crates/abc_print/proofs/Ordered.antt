@@ -1,25 +1,22 @@
 -- What is in order is put in order as it is, and a value has no size past its bound.
-use Rattle.std.proofs.Common.{◌≡◌, ◌≢◌, ℕ, ◌≤◌, List, [], ◌∷◌, Some, None, cond, refl, sym, ap, ◌∙◌, subst}
-use Rattle.std.proofs.lemmas.Bool.{le-ltb}
+use Rattle.std.proofs.Common.{◌≡◌, ◌≢◌, List, [], ◌∷◌, Some, None, cond, refl, sym, ap, ◌∙◌, subst}
 use Rattle.std.specs.declared.cmp.Ordering.{Ordering}
 use Rattle.std.specs.declared.cmp.Ordering.TheVariants.{Less, Equal, Greater}
 use Rattle.std.specs.Ordering.{is_eq, match_ordering, ordering_reverse}
-use Rattle.abc_num.specs.declared.limits.TheConstants.{MOST_ELEMENTS, MOST_VALUE_HEIGHT, MOST_WEIGHT}
-use Rattle.abc_value.specs.Tree.{Tree, Trees, Pairs, list, compound, table, trees, pairs, no_trees, more, no_pairs, pair, listed_pairs}
+use Rattle.abc_value.specs.Tree.{Tree, Trees, Pairs, list, table, trees, pairs, no_trees, more, no_pairs, pair, listed_pairs}
 use Rattle.abc_value.specs.Tree as tree
 use Rattle.abc_value.specs.Order.{order}
-use Rattle.abc_value.specs.Sizes.{length_of, height_of, weight_of, sizes_fault, size_fault}
+use Rattle.abc_value.specs.Sizes.{length_of, height_of, weight_of, size_fault}
 use Rattle.abc_value.specs.Changes.{add, with_pair, associate_of}
-use Rattle.abc_value.specs.Regular.{IsSmall, IsOrdered, IsRising, IsRegular, AllRegularPairs}
-use Rattle.abc_value.proofs.OrderLaws.{order-reverse, order-trans}
+use Rattle.abc_value.specs.Regular.{IsSmall, IsOrdered, IsRising, AllRegularPairs}
+use Rattle.abc_value.proofs.Adding.{no_fault, tail_ordered}
+use Rattle.abc_value.proofs.OrderLaws.{order-reverse}
+use Rattle.abc_value.proofs.RisingKeys.{tail_rising, Below, below_all}
+use Rattle.abc_value.proofs.Rows.{trees_listed, pairs_listed}
 use Rattle.abc_print.specs.declared.frames.Pair.{Pair}
 use Rattle.abc_print.specs.Literals.{if_small, by_fault, in_order, listed, with_new, placed, tabled}
 
 -- ---- sizes
-
-no_fault : (long high heavy : ℕ) → long ≤ MOST_ELEMENTS → high ≤ MOST_VALUE_HEIGHT → heavy ≤ MOST_WEIGHT → sizes_fault long high heavy ≡ None
-unfolding sizes_fault
-no_fault long high heavy a b c = rw (le-ltb MOST_ELEMENTS long a, le-ltb MOST_VALUE_HEIGHT high b, le-ltb MOST_WEIGHT heavy c) refl
 
 fits : (t : Tree) → IsSmall t → size_fault t ≡ None
 unfolding size_fault
@@ -29,10 +26,6 @@ pub small : (t : Tree) → IsSmall t → if_small t ≡ Some t
 small t s = ap (by_fault t) (fits t s)
 
 -- ---- lists
-
-pub trees_listed : (ts : Trees) → trees (tree.listed ts) ≡ ts
-trees_listed no_trees = refl
-trees_listed (more t ts) = ap (more t) (trees_listed ts)
 
 not_less : (r : Ordering) → r ≢ Greater → ordering_reverse r ≢ Less
 not_less Less h e = cc
@@ -49,13 +42,9 @@ added e no_trees h = refl
 added e (more x xs) h =
     in_front (order x e) x e (x ∷ add e (tree.listed xs)) (e ∷ x ∷ tree.listed xs) (subst (λ r. r ≢ Less) (sym (order-reverse x e)) (not_less (order e x) h.0))
 
-ordered_tail : (t : Tree) (ts : Trees) → IsOrdered (more t ts) → IsOrdered ts
-ordered_tail t no_trees h = tt
-ordered_tail t (more u us) h = h.1
-
 stays : (ts : Trees) → IsOrdered ts → in_order (tree.listed ts) ≡ tree.listed ts
 stays no_trees h = refl
-stays (more t ts) h = ap (add t) (stays ts (ordered_tail t ts h)) ∙ added t ts h
+stays (more t ts) h = ap (add t) (stays ts (tail_ordered t ts h)) ∙ added t ts h
 
 -- the elements of a list give it back
 pub list_back : (ts : Trees) → IsSmall (list ts) → IsOrdered ts → listed (tree.listed ts) ≡ Some (list ts)
@@ -67,25 +56,6 @@ list_back ts s h = ap (λ es. if_small (list (trees es))) (stays ts h) ∙ ap (�
 abbrev pub pair_list : Pairs → List Pair
 pair_list no_pairs = []
 pair_list (pair k a ps) = record { key = k; associate = a } ∷ pair_list ps
-
-pairs_listed : (ps : Pairs) → pairs (listed_pairs ps) ≡ ps
-pairs_listed no_pairs = refl
-pairs_listed (pair k a ps) = ap (pair k a) (pairs_listed ps)
-
--- the key is less than all keys
-abbrev Below : Tree → Pairs → Type 0
-Below k no_pairs = Unit {0}
-Below k (pair l b ps) = (order k l ≡ Less) × Below k ps
-
-below_more : (k l : Tree) (ps : Pairs) → IsRegular k → IsRegular l → AllRegularPairs ps → order k l ≡ Less → Below l ps → Below k ps
-unfolding AllRegularPairs
-below_more k l no_pairs rk rl all h b = tt
-below_more k l (pair m c ps) rk rl all h b = (order-trans k l m rk rl all.0 h b.0, below_more k l ps rk rl all.2 h b.1)
-
-below_all : (k a : Tree) (ps : Pairs) → IsRegular k → AllRegularPairs ps → IsRising (pair k a ps) → Below k ps
-unfolding AllRegularPairs
-below_all k a no_pairs rk all h = tt
-below_all k a (pair l b ps) rk all h = (h.0, below_more k l ps rk all.0 all.2 h.0 (below_all l b ps all.0 all.2 h.1))
 
 above : (k l : Tree) → order k l ≡ Less → order l k ≡ Greater
 above k l h = order-reverse l k ∙ ap ordering_reverse h
@@ -99,16 +69,12 @@ first_pair k a no_pairs b = refl
 first_pair k a (pair l c ps) b =
     ap (λ r. match_ordering r ((l, c) ∷ with_pair k a (listed_pairs ps)) ((k, a) ∷ listed_pairs ps) ((k, a) ∷ (l, c) ∷ listed_pairs ps)) (above k l b.0)
 
-rising_tail : (k a : Tree) (ps : Pairs) → IsRising (pair k a ps) → IsRising ps
-rising_tail k a no_pairs h = tt
-rising_tail k a (pair l b ps) h = h.1
-
 keeps : (ps : Pairs) → AllRegularPairs ps → IsRising ps → placed (pair_list ps) ≡ listed_pairs ps
 unfolding AllRegularPairs
 keeps no_pairs all h = refl
 keeps (pair k a ps) all h =
     let b = below_all k a ps all.0 all.2 h in
-    ap (λ qs. with_new k a (associate_of k qs) qs) (keeps ps all.2 (rising_tail k a ps h)) ∙ ap (λ o. with_new k a o (listed_pairs ps)) (is_new k ps b) ∙ first_pair k a ps b
+    ap (λ qs. with_new k a (associate_of k qs) qs) (keeps ps all.2 (tail_rising k a ps h)) ∙ ap (λ o. with_new k a o (listed_pairs ps)) (is_new k ps b) ∙ first_pair k a ps b
 
 -- the pairs of a table give it back
 pub table_back : (k a : Tree) (ps : Pairs) → IsSmall (table (pair k a ps)) → AllRegularPairs (pair k a ps) → IsRising (pair k a ps) → tabled (pair_list (pair k a ps)) ≡ Some (table (pair k a ps))

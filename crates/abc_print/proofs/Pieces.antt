@@ -17,7 +17,9 @@ use Rattle.abc_tokens.specs.Scanned.{Found, onto, scanned, with_text, with_word,
 use Rattle.abc_print.specs.declared.frames.Lexeme.{Lexeme}
 use Rattle.abc_print.specs.Lexemes.{Seen, seen, HasLexemes, none, IsLiteralLine}
 use Rattle.abc_print.specs.Literals.{IsLiteral}
-use Rattle.abc_print.proofs.TokenFacts.{IsSuffix, suffix_drop, whole_suffix, taken, some_is, OneReading}
+use Rattle.abc_tokens.proofs.Placed.{IsSuffix, suffix_drop, whole_suffix, taken}
+use Rattle.abc_tokens.proofs.Faults.{OneReading}
+use Rattle.std.proofs.lemmas.Option.{same_Some}
 
 -- the tokens of the last bytes of a line, as literals see them
 pub record IsSeenAt (line bytes : List ℕ) (us : List Seen) : Type 0 where
@@ -219,7 +221,7 @@ pub spelled_line : OneReading → (line : List ℕ) (ls : List Lexeme) (t : Tree
 spelled_line law line ls t r spells =
     let g = r.are_seen.at line (whole_suffix line) in
     let only : (us : List Token) (ns : List (List ℕ)) → HasTokens line us ns → us ≡ g.tokens =
-    λ us ns k. ap (λ (p : List Token × List (List ℕ)). p.0) (some_is (sym ((law line us ns).0 k) ∙ g.found)) in
+    λ us ns k. ap (λ (p : List Token × List (List ℕ)). p.0) (same_Some _ _ (sym ((law line us ns).0 k) ∙ g.found)) in
     let tokens : AreTokens line g.tokens =
     record { characters = r.are_seen.characters; found = (g.numbers, (law line g.tokens g.numbers).1 g.found, g.sound); only = only } in
     (g.tokens, tokens, ls, subst (λ (us : List Seen). HasLexemes us ls) (sym g.same) r.lexemes, spells)

@@ -7,6 +7,7 @@ use Rattle.abc_print.specs.declared.faults.LiteralFault.TheVariants as fault
 use Rattle.abc_print.specs.declared.frames.Lexeme.{Lexeme}
 use Rattle.abc_print.specs.declared.frames.Frame.{Frame}
 use Rattle.abc_print.specs.declared.frames.Turn.{Turn}
+use Rattle.abc_print.specs.declared.frames.Turn.TheVariants as turn
 use Rattle.abc_print.specs.Machine.{Steps, Gives, at_lexeme, at_end, run}
 
 pub goes_on : (now rest : List Lexeme) (l : Lexeme) (stack new : List Frame) (at then : Turn) (found : Option Tree) → run now stack at ≡ found → now ≡ l ∷ rest
@@ -23,6 +24,13 @@ refused now rest l stack new at found fault.Memory h e s = tt
 pub ended : (now : List Lexeme) (stack : List Frame) (at : Turn) (found : Option Tree) → run now stack at ≡ found → now ≡ [] → found ≡ at_end stack at
 unfolding run
 ended now stack at found h e = sym h ∙ ap (λ ls. run ls stack at) e
+
+-- the lexemes may end behind a part alone
+pub unfinished : (stack : List Frame) (at : Turn) → ((t : Tree) → at ≡ turn.Behind t → ⊥) → at_end stack at ≡ None
+unfinished stack turn.Part h = refl
+unfinished stack turn.Bracket h = refl
+unfinished stack turn.Colon h = refl
+unfinished stack (turn.Behind t) h = absurd (h t refl)
 
 -- nothing was left to take
 pub none_left : (o : Option Lexeme) (old new : List Lexeme) → old ≡ option_to_list o ++ new → new ≡ drop 1 old → ((l : Lexeme) → o ≡ Some l → ⊥) → old ≡ []

@@ -1,12 +1,13 @@
 -- A text in quotes.
 use Rattle.std.proofs.Common.{◌≡◌, ◌≢◌, ℕ, Bool, true, false, ◌||◌, cond, List, [], ◌∷◌, ◌++◌, length, Some, refl, sym, ap, ◌∙◌, subst, arith, eqb-true, length-append}
-use Rattle.std.specs.Prelude.{◌==◌}
+use Rattle.std.specs.Prelude.{◌==◌, ◌&&◌}
 use Rattle.std.specs.List.{list_all, flat_map}
 use Rattle.std.proofs.lemmas.List.{append_assoc}
 use Rattle.std.proofs.lemmas.Bool.Decides.{nat_tests}
 use Rattle.abc_value.specs.Regular.{IsCharacter, AreCharacters}
 use Rattle.abc_value.specs.Printed.{doubled, quoted}
 use Rattle.abc_value.specs.Tree.{text}
+use Rattle.abc_value.proofs.Characters.{characters-doubled}
 use Rattle.abc_tokens.specs.declared.kinds.TokenKind.TheVariants as kind
 use Rattle.abc_tokens.specs.Bytes.{is_character, is_digit, point, begins}
 use Rattle.abc_tokens.specs.Scanned.{behind_text, ending}
@@ -89,17 +90,9 @@ content_is (c ∷ b) =
 one_character : (c : ℕ) → IsCharacter c → is_character c ≡ true
 one_character c h = grind (arith, nat_tests)
 
-doubled_characters : (c : ℕ) (x y : Bool) → is_character c ≡ true → (c == 34) ≡ x → (c == 96) ≡ y → list_all is_character (doubled c) ≡ true
-doubled_characters c x y h ex ey = ap (list_all is_character) (doubled_by c x y ex ey) ∙ by_test (x || y)
-  where
-    by_test : (z : Bool) → list_all is_character (cond z (c ∷ c ∷ []) (c ∷ [])) ≡ true
-    by_test true = rw h refl
-    by_test false = rw h refl
-
-spelled_characters : (b : List ℕ) → AreCharacters b → list_all is_character (flat_map doubled b) ≡ true
-spelled_characters [] h = refl
-spelled_characters (c ∷ b) h =
-    characters-append (doubled c) (flat_map doubled b) (doubled_characters c (c == 34) (c == 96) (one_character c h.0) refl refl) (spelled_characters b h.1)
+tests : (b : List ℕ) → AreCharacters b → list_all is_character b ≡ true
+tests [] h = refl
+tests (c ∷ b) h = ap (λ z. z && list_all is_character b) (one_character c h.0) ∙ tests b h.1
 
 text_class : (b : List ℕ) → IsClass (kind.Text, b) class.Text
 unfolding class_of
@@ -108,6 +101,6 @@ text_class b = refl
 pub text_piece : (b : List ℕ) → AreCharacters b → IsPiece (quoted b) (lexeme.Value (text b) ∷ [])
 text_piece b h rest ms fits r = record {
   tokens = (kind.Text, 34 ∷ spelled b) ∷ r.tokens;
-  are_seen = text_seen 34 (spelled b) rest r.tokens (characters-append (34 ∷ flat_map doubled b) (34 ∷ []) (spelled_characters b h) refl) r.are_seen refl refl refl (ends b rest (no_quote rest fits));
+  are_seen = text_seen 34 (spelled b) rest r.tokens (characters-append (34 ∷ flat_map doubled b) (34 ∷ []) (tests (flat_map doubled b) (characters-doubled b h)) refl) r.are_seen refl refl refl (ends b rest (no_quote rest fits));
   lexemes = lexemes.quoted (text_class (34 ∷ spelled b)) refl (content_is b) r.lexemes;
 }

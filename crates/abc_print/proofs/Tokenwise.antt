@@ -1,23 +1,21 @@
 -- One token more.
-use Rattle.std.proofs.Common.{◌≡◌, ◌≢◌, ℕ, ◌<◌, ℤ, pos, ◌*ℤ◌, Bool, List, [], ◌∷◌, ◌++◌, length, Result, Ok, Err, refl, sym, ap, ◌∙◌, subst, arith}
+use Rattle.std.proofs.Common.{◌≡◌, ◌≢◌, ℕ, pos, ◌*ℤ◌, Bool, List, [], ◌∷◌, ◌++◌, length, Result, Ok, Err, refl, sym, ap, ◌∙◌, subst, arith}
 use Rattle.std.specs.Prelude.{◌↔◌, IsErrOf}
-use Rattle.std.proofs.lemmas.Int.{ints}
 use Rattle.std.proofs.lemmas.List.{append_assoc}
 use Rattle.abc_num.specs.Number.{Fraction, IsNumber}
 use Rattle.abc_num.specs.declared.number.NumFault.{NumFault}
 use Rattle.abc_num.specs.declared.number.NumFault.TheVariants as num_fault
 use Rattle.abc_num.specs.Ratio.{IsRatio}
-use Rattle.abc_num.proofs.Integers.{cancel}
 use Rattle.abc_num.proofs.LowestTerms.{number_lowest}
 use Rattle.abc_num.specs.Literal.{literal_numerator, literal_denominator, behind}
 use Rattle.abc_num.specs.Operations.{IsQuotient}
 use Rattle.abc_num.proofs.OrderLaws.{one_number}
 use Rattle.abc_num.proofs.Digits.{power-positive}
 use Rattle.abc_num.proofs.Ratios.{IsRatio-number, IsRatio-no_number, pos_ne}
+use Rattle.abc_num.proofs.Signs.{factor_ne}
 use Rattle.abc_value.specs.Tree.{number}
 use Rattle.abc_print.specs.declared.faults.LiteralFault.{LiteralFault}
 use Rattle.abc_print.specs.declared.faults.LiteralFault.TheVariants as fault
-use Rattle.abc_print.specs.declared.frames.Mark.{Mark}
 use Rattle.abc_print.specs.declared.frames.Lexeme.{Lexeme}
 use Rattle.abc_print.specs.declared.frames.Lexeme.TheVariants as lexeme
 use Rattle.abc_print.specs.declared.lexing.Class.{Class}
@@ -65,18 +63,13 @@ start_number all b x h = reads_same all class.Number b state.Start (state.Number
 pub signed_number : (all : List Lexeme) (b : List ℕ) (s : Bool) (x : Fraction) → IsValueOf b x → Reads all class.Number b (state.Signed s) all (Ok (state.Numbered (with_sign s x)))
 signed_number all b s x h = reads_same all class.Number b (state.Signed s) (state.Numbered (with_sign s x)) (λ ts ms. with_number b (λ y. lexed ts (state.Numbered (with_sign s y)) ms) x h)
 
-not_zero : (z : ℤ) (b : ℕ) → z ≢ pos 0 → 0 < b → z *ℤ pos b ≢ pos 0
-not_zero z b h p e =
-    let none : pos 0 ≡ pos 0 *ℤ pos b = omega (arith, ints) in
-    h (cancel (pos b) z (pos 0) (pos_ne b p) (e ∙ none))
-
 pub one_quotient : (x y z w : Fraction) → IsNumber x → y.numerator ≢ pos 0 → IsQuotient x y (Ok z) → IsQuotient x y (Ok w) → w ≡ z
 one_quotient x y z w n h p q =
     let a = x.numerator *ℤ pos y.denominator in
     let b = y.numerator *ℤ pos x.denominator in
     let u = IsRatio-number a b z p in
     let v = IsRatio-number a b w q in
-    one_number a b w z (not_zero y.numerator x.denominator h (number_lowest x n).1) v.0 u.0 v.1 u.1
+    one_number a b w z (factor_ne y.numerator x.denominator h (number_lowest x n).1) v.0 u.0 v.1 u.1
 
 pub quotient_refused : (x y : Fraction) (r : Result Fraction NumFault) (f : NumFault) → r ≡ Err f → (y.numerator ≢ pos 0 → IsQuotient x y r) → GivesQuotient (Err fault.BadInput) x y
 quotient_refused x y r f e h z nz q =

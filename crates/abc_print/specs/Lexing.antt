@@ -1,11 +1,9 @@
 -- The same, a token at a time: steps of the code.
-use Rattle.std.specs.Prelude.{◌≡◌, ◌≢◌, ◌↔◌, ℕ, ◌≤◌, length, pos, true, false, List, [], ◌∷◌, ◌++◌, ◌==◌, ◌||◌, Ok, Err, Result, Option, Some, None, if◌then◌else◌}
+use Rattle.std.specs.Prelude.{◌≡◌, ◌≢◌, ◌↔◌, ℕ, pos, true, false, List, [], ◌∷◌, ◌++◌, ◌==◌, ◌||◌, Ok, Err, Result, Option, Some, None, if◌then◌else◌}
 use Rattle.abc_tokens.specs.Bytes.{backquote}
 use Rattle.abc_num.specs.Number.{Fraction}
-use Rattle.abc_num.specs.Literal.{IsNumberToken}
 use Rattle.abc_num.specs.Operations.{IsQuotient}
 use Rattle.abc_tokens.specs.declared.kinds.Token.{Token}
-use Rattle.abc_tokens.specs.declared.kinds.TokenKind.TheVariants as kind
 use Rattle.abc_tokens.specs.Shape.{spelling}
 use Rattle.abc_value.specs.Tree.{number, text}
 use Rattle.abc_print.specs.declared.faults.LiteralFault.{LiteralFault}
@@ -87,12 +85,6 @@ GivesQuotient (Err fault.Memory) x y = ⊥
 -- how many bytes the character c before d takes in a text
 abbrev pub width : ℕ → ℕ → ℕ → Option ℕ
 width q c d = if (c == q) || (c == backquote) then (if d == c then Some 2 else None) else Some 1
-
--- a token stands in its line, and a number token is spelled as one
-pub record IsToken (line : List ℕ) (t : Token) : Type 0 where
-  pub ordered : t.start ≤ t.end
-  pub within : t.end ≤ length line
-  pub digits : t.kind ≡ kind.Number → IsNumberToken (spelling line t)
 
 -- a token of a line was read
 abbrev pub ReadsToken : List ℕ → List Lexeme → Token → State → List Lexeme → Result State LiteralFault → Type 0

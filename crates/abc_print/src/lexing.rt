@@ -4,9 +4,10 @@ ghost use Rattle.abc_num.specs.Literal.{IsNumberToken};
 ghost use Rattle.abc_num.specs.declared.limits.TheConstants.{MOST_LINE_BYTES};
 ghost use Rattle.abc_tokens.specs.Tokens.{AreTokens};
 ghost use Rattle.abc_value.specs.Regular.{AreCharacters};
+ghost use Rattle.abc_tokens.specs.Shape.{IsPlaced};
 ghost use Rattle.abc_print.specs.declared.frames.Lexeme.{Lexeme};
 ghost use Rattle.abc_print.specs.Lexemes.{class_of, signs_class, sign_class, content, with_sign, seen};
-ghost use Rattle.abc_print.specs.Lexing.{Reads, ReadsToken, IsToken, lexed, GivesNumber, GivesQuotient, width};
+ghost use Rattle.abc_print.specs.Lexing.{Reads, ReadsToken, lexed, GivesNumber, GivesQuotient, width};
 
 use crate::LiteralFault;
 use crate::frames::{Lexeme, Mark};
@@ -50,9 +51,7 @@ fn class_of(kind: TokenKind, bytes: &[u8]) -> Class
         TokenKind::Number => Class::Number,
         TokenKind::Text => Class::Text,
         TokenKind::Sign => signs_class(bytes),
-        TokenKind::Name => Class::Other,
-        TokenKind::Keyword => Class::Other,
-        TokenKind::Other => Class::Other,
+        TokenKind::Name | TokenKind::Keyword | TokenKind::Other => Class::Other,
     }
 }
 
@@ -131,8 +130,7 @@ fn start(
             all.push_back(Lexeme::Mark(mark))?;
             Ok(State::Start)
         }
-        Class::Slash => Err(LiteralFault::BadInput),
-        Class::Other => Err(LiteralFault::BadInput),
+        Class::Slash | Class::Other => Err(LiteralFault::BadInput),
     }
 }
 
@@ -290,7 +288,7 @@ fn read_token(
     state: State,
     token: Token,
 ) -> Result<State, LiteralFault>
-    requires token { IsToken line.now token }
+    requires token { IsPlaced line.now token }
     requires characters { AreCharacters line.now }
     requires length { length line.now ≤ MOST_LINE_BYTES }
     ensures { ReadsToken line.now all.old.items token state all.new.items result }
@@ -323,7 +321,6 @@ pub(crate) fn lexemes(
             all.push_back(Lexeme::Value(Value::number(x)))?;
             Ok(all)
         }
-        State::Signed(_) => Err(LiteralFault::BadInput),
-        State::Divided(_) => Err(LiteralFault::BadInput),
+        _ => Err(LiteralFault::BadInput),
     }
 }

@@ -40,11 +40,7 @@ fn at_part(alloc: Global, stack: &mut Stack<Frame>, mark: Mark) -> Result<Turn, 
         }
         Mark::Unbrace => emptied(alloc, stack),
         Mark::Bracket => first_key(alloc, stack),
-        Mark::Close => Err(LiteralFault::BadInput),
-        Mark::Unbracket => Err(LiteralFault::BadInput),
-        Mark::Comma => Err(LiteralFault::BadInput),
-        Mark::Semicolon => Err(LiteralFault::BadInput),
-        Mark::Colon => Err(LiteralFault::BadInput),
+        _ => Err(LiteralFault::BadInput),
     }
 }
 
@@ -59,12 +55,7 @@ fn emptied(alloc: Global, stack: &mut Stack<Frame>) -> Result<Turn, LiteralFault
             }
             Ok(Turn::Behind(Value::empty(alloc)))
         }
-        Some(Frame::Whole(_)) => Err(LiteralFault::BadInput),
-        Some(Frame::Round(_)) => Err(LiteralFault::BadInput),
-        Some(Frame::Pairs(_)) => Err(LiteralFault::BadInput),
-        Some(Frame::Key(_, _)) => Err(LiteralFault::BadInput),
-        Some(Frame::Associate(_, _)) => Err(LiteralFault::BadInput),
-        None => Err(LiteralFault::BadInput),
+        _ => Err(LiteralFault::BadInput),
     }
 }
 
@@ -80,12 +71,7 @@ fn first_key(alloc: Global, stack: &mut Stack<Frame>) -> Result<Turn, LiteralFau
             stack.push(Frame::Key(Items::new(alloc), Items::new(alloc)))?;
             Ok(Turn::Part)
         }
-        Some(Frame::Whole(_)) => Err(LiteralFault::BadInput),
-        Some(Frame::Round(_)) => Err(LiteralFault::BadInput),
-        Some(Frame::Pairs(_)) => Err(LiteralFault::BadInput),
-        Some(Frame::Key(_, _)) => Err(LiteralFault::BadInput),
-        Some(Frame::Associate(_, _)) => Err(LiteralFault::BadInput),
-        None => Err(LiteralFault::BadInput),
+        _ => Err(LiteralFault::BadInput),
     }
 }
 
@@ -95,14 +81,7 @@ fn at_bracket(alloc: Global, stack: &mut Stack<Frame>, mark: Mark) -> Result<Tur
 {
     match mark {
         Mark::Bracket => later_key(alloc, stack),
-        Mark::Open => Err(LiteralFault::BadInput),
-        Mark::Close => Err(LiteralFault::BadInput),
-        Mark::Brace => Err(LiteralFault::BadInput),
-        Mark::Unbrace => Err(LiteralFault::BadInput),
-        Mark::Unbracket => Err(LiteralFault::BadInput),
-        Mark::Comma => Err(LiteralFault::BadInput),
-        Mark::Semicolon => Err(LiteralFault::BadInput),
-        Mark::Colon => Err(LiteralFault::BadInput),
+        _ => Err(LiteralFault::BadInput),
     }
 }
 
@@ -114,12 +93,7 @@ fn later_key(alloc: Global, stack: &mut Stack<Frame>) -> Result<Turn, LiteralFau
             stack.push(Frame::Key(pairs, Items::new(alloc)))?;
             Ok(Turn::Part)
         }
-        Some(Frame::Whole(_)) => Err(LiteralFault::BadInput),
-        Some(Frame::Round(_)) => Err(LiteralFault::BadInput),
-        Some(Frame::Elements(_)) => Err(LiteralFault::BadInput),
-        Some(Frame::Key(_, _)) => Err(LiteralFault::BadInput),
-        Some(Frame::Associate(_, _)) => Err(LiteralFault::BadInput),
-        None => Err(LiteralFault::BadInput),
+        _ => Err(LiteralFault::BadInput),
     }
 }
 
@@ -129,14 +103,7 @@ fn at_colon(stack: &mut Stack<Frame>, mark: Mark) -> Result<Turn, LiteralFault>
 {
     match mark {
         Mark::Colon => Ok(Turn::Part),
-        Mark::Open => Err(LiteralFault::BadInput),
-        Mark::Close => Err(LiteralFault::BadInput),
-        Mark::Brace => Err(LiteralFault::BadInput),
-        Mark::Unbrace => Err(LiteralFault::BadInput),
-        Mark::Bracket => Err(LiteralFault::BadInput),
-        Mark::Unbracket => Err(LiteralFault::BadInput),
-        Mark::Comma => Err(LiteralFault::BadInput),
-        Mark::Semicolon => Err(LiteralFault::BadInput),
+        _ => Err(LiteralFault::BadInput),
     }
 }
 
@@ -155,10 +122,7 @@ fn behind(
         Mark::Close => close(stack, last),
         Mark::Unbracket => unbracket(stack, last),
         Mark::Unbrace => unbrace(alloc, stack, last),
-        Mark::Open => Err(LiteralFault::BadInput),
-        Mark::Brace => Err(LiteralFault::BadInput),
-        Mark::Bracket => Err(LiteralFault::BadInput),
-        Mark::Colon => Err(LiteralFault::BadInput),
+        _ => Err(LiteralFault::BadInput),
     }
 }
 
@@ -181,10 +145,7 @@ fn comma(stack: &mut Stack<Frame>, last: Value) -> Result<Turn, LiteralFault>
             stack.push(Frame::Key(pairs, fields))?;
             Ok(Turn::Part)
         }
-        Some(Frame::Elements(_)) => Err(LiteralFault::BadInput),
-        Some(Frame::Pairs(_)) => Err(LiteralFault::BadInput),
-        Some(Frame::Associate(_, _)) => Err(LiteralFault::BadInput),
-        None => Err(LiteralFault::BadInput),
+        _ => Err(LiteralFault::BadInput),
     }
 }
 
@@ -205,11 +166,7 @@ fn semicolon(stack: &mut Stack<Frame>, last: Value) -> Result<Turn, LiteralFault
             stack.push(Frame::Pairs(pairs))?;
             Ok(Turn::Bracket)
         }
-        Some(Frame::Whole(_)) => Err(LiteralFault::BadInput),
-        Some(Frame::Round(_)) => Err(LiteralFault::BadInput),
-        Some(Frame::Pairs(_)) => Err(LiteralFault::BadInput),
-        Some(Frame::Key(_, _)) => Err(LiteralFault::BadInput),
-        None => Err(LiteralFault::BadInput),
+        _ => Err(LiteralFault::BadInput),
     }
 }
 
@@ -218,12 +175,7 @@ fn close(stack: &mut Stack<Frame>, last: Value) -> Result<Turn, LiteralFault>
 {
     match stack.pop() {
         Some(Frame::Round(fields)) => Ok(Turn::Behind(fields_value(fields, last)?)),
-        Some(Frame::Whole(_)) => Err(LiteralFault::BadInput),
-        Some(Frame::Elements(_)) => Err(LiteralFault::BadInput),
-        Some(Frame::Pairs(_)) => Err(LiteralFault::BadInput),
-        Some(Frame::Key(_, _)) => Err(LiteralFault::BadInput),
-        Some(Frame::Associate(_, _)) => Err(LiteralFault::BadInput),
-        None => Err(LiteralFault::BadInput),
+        _ => Err(LiteralFault::BadInput),
     }
 }
 
@@ -236,12 +188,7 @@ fn unbracket(stack: &mut Stack<Frame>, last: Value) -> Result<Turn, LiteralFault
             stack.push(Frame::Associate(pairs, key))?;
             Ok(Turn::Colon)
         }
-        Some(Frame::Whole(_)) => Err(LiteralFault::BadInput),
-        Some(Frame::Round(_)) => Err(LiteralFault::BadInput),
-        Some(Frame::Elements(_)) => Err(LiteralFault::BadInput),
-        Some(Frame::Pairs(_)) => Err(LiteralFault::BadInput),
-        Some(Frame::Associate(_, _)) => Err(LiteralFault::BadInput),
-        None => Err(LiteralFault::BadInput),
+        _ => Err(LiteralFault::BadInput),
     }
 }
 
@@ -253,10 +200,6 @@ fn unbrace(alloc: Global, stack: &mut Stack<Frame>, last: Value) -> Result<Turn,
         Some(Frame::Associate(pairs, key)) => {
             Ok(Turn::Behind(table_value(alloc, pairs, key, last)?))
         }
-        Some(Frame::Whole(_)) => Err(LiteralFault::BadInput),
-        Some(Frame::Round(_)) => Err(LiteralFault::BadInput),
-        Some(Frame::Pairs(_)) => Err(LiteralFault::BadInput),
-        Some(Frame::Key(_, _)) => Err(LiteralFault::BadInput),
-        None => Err(LiteralFault::BadInput),
+        _ => Err(LiteralFault::BadInput),
     }
 }

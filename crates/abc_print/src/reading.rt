@@ -59,9 +59,7 @@ fn value(alloc: Global, lexemes: VecDeque<Lexeme>) -> Result<Value, LiteralFault
     }
     match turn {
         Turn::Behind(last) => finish(&mut stack, last),
-        Turn::Part => Err(LiteralFault::BadInput),
-        Turn::Bracket => Err(LiteralFault::BadInput),
-        Turn::Colon => Err(LiteralFault::BadInput),
+        _ => Err(LiteralFault::BadInput),
     }
 }
 
@@ -74,12 +72,7 @@ fn finish(stack: &mut Stack<Frame>, last: Value) -> Result<Value, LiteralFault>
             None => fields_value(fields, last),
             Some(_) => Err(LiteralFault::BadInput),
         },
-        Some(Frame::Round(_)) => Err(LiteralFault::BadInput),
-        Some(Frame::Elements(_)) => Err(LiteralFault::BadInput),
-        Some(Frame::Pairs(_)) => Err(LiteralFault::BadInput),
-        Some(Frame::Key(_, _)) => Err(LiteralFault::BadInput),
-        Some(Frame::Associate(_, _)) => Err(LiteralFault::BadInput),
-        None => Err(LiteralFault::BadInput),
+        _ => Err(LiteralFault::BadInput),
     }
 }
 
@@ -103,8 +96,6 @@ fn at_value(stack: &mut Stack<Frame>, value: Value, turn: Turn) -> Result<Turn, 
 {
     match turn {
         Turn::Part => Ok(Turn::Behind(value)),
-        Turn::Bracket => Err(LiteralFault::BadInput),
-        Turn::Colon => Err(LiteralFault::BadInput),
-        Turn::Behind(_) => Err(LiteralFault::BadInput),
+        _ => Err(LiteralFault::BadInput),
     }
 }

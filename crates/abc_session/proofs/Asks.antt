@@ -2,6 +2,7 @@
 use Rattle.std.proofs.Common.{◌≡◌, ◌≤◌, ℕ, suc, Bool, true, false, List, [], ◌∷◌, ◌++◌, refl, sym, ◌∙◌, ap, subst, append_assoc, arith}
 use Rattle.std.proofs.lemmas.List.{append-nil}
 use Rattle.std.specs.List.{AllByRecursion}
+use Rattle.abc_num.proofs.Parts.{each_weaker}
 use Rattle.abc_session.specs.Asking.{Asked, AsksNow, Rises, AskedRising, next_ask}
 use Rattle.abc_session.specs.Reading.{WantsMore, AsksMore}
 
@@ -9,15 +10,11 @@ all-append : (P : ℕ × ℕ → Type 0) (xs ys : List (ℕ × ℕ)) → AllByRe
 all-append P [] ys p q = q
 all-append P (x ∷ xs) ys p q = (p.0, all-append P xs ys p.1 q)
 
-all-map : (P Q : ℕ × ℕ → Type 0) → ((x : ℕ × ℕ) → P x → Q x) → (xs : List (ℕ × ℕ)) → AllByRecursion P xs → AllByRecursion Q xs
-all-map P Q f [] p = tt
-all-map P Q f (x ∷ xs) p = (f x p.0, all-map P Q f xs p.1)
-
 pub none_asked : (P : ℕ × ℕ → Type 0) (old : List (ℕ × ℕ)) → Asked P old old
 none_asked P old = record { extra = []; is = sym (append-nil old); each = tt }
 
 pub asked_weaker : (P Q : ℕ × ℕ → Type 0) (old new : List (ℕ × ℕ)) → ((x : ℕ × ℕ) → P x → Q x) → Asked P old new → Asked Q old new
-asked_weaker P Q old new f p = record { extra = p.extra; is = p.is; each = all-map P Q f p.extra p.each }
+asked_weaker P Q old new f p = record { extra = p.extra; is = p.is; each = each_weaker P Q f p.extra p.each }
 
 pub asked_then : (P : ℕ × ℕ → Type 0) (a b c : List (ℕ × ℕ)) → Asked P a b → Asked P b c → Asked P a c
 asked_then P a b c p q = record {

@@ -1,7 +1,8 @@
 -- A session that is broken off within an item.
 use Rattle.std.proofs.Common.{◌≡◌, ◌⊎◌, inl, inr, ⊎_elim, ℕ, suc, ◌<◌, ◌≤◌, false, List, [], ◌∷◌, ◌++◌, length, take, sym, ◌∙◌, ap, subst, arith, length-append}
+use Rattle.std.specs.List.{concat}
 use Rattle.std.proofs.lemmas.List.{append-nil, take-append-le}
-use Rattle.abc_outside.specs.Session.{joined, HasServed, IsBetween, IsBroken, IsCutShort, in_commit, in_saying}
+use Rattle.abc_outside.specs.Session.{HasServed, IsBetween, IsBroken, IsCutShort, in_commit, in_saying}
 use Rattle.abc_outside.specs.Stop.{Leaves, IsQuiet}
 use Rattle.abc_outside.proofs.Endings.{now_leaves}
 use Rattle.abc_session.specs.Lines.{Line, is_blank, items_of}
@@ -76,7 +77,7 @@ module _ {H : Type 0} (clock : H → ℕ) (stopped : H → ℕ → List ℕ → 
         among = omega arith;
         count = n;
         said_is = front ∙ ap (λ (l : List ℕ). l ++ take n (outcome bound k work line).reply) same ∙ ap (λ (l : List ℕ). said ++ take n l) reply_is
-            ∙ ap (λ (l : List ℕ). said ++ l) (sym (take-append-le n reply (joined rest) (omega (arith, less))));
+            ∙ ap (λ (l : List ℕ). said ++ l) (sym (take-append-le n reply (concat rest) (omega (arith, less))));
         begun = omega arith;
         cut = omega (arith, less, length-append reply []);
         image = λ c s stop. subst (λ m. OpensTo c (outcome bound m work line).work) number (subst (λ w. OpensTo c w) kept (opens c s stop));

@@ -1,22 +1,15 @@
 -- The form of a line, by its first words and what follows them.
-use Rattle.std.proofs.Common.{◌≡◌, ℕ, ◌==◌, Bool, true, false, ◌&&◌, not, List, [], ◌∷◌, length, refl, sym, ◌∙◌, ap, arith, if◌then◌else◌}
+use Rattle.std.proofs.Common.{◌≡◌, ℕ, ◌==◌, Bool, false, ◌&&◌, not, List, [], ◌∷◌, length, refl, sym, ◌∙◌, ap, arith, if◌then◌else◌}
 use Rattle.std.specs.Prelude.{bytes_eq, codes, filter}
+use Rattle.std.proofs.Math.Bool.{and-false}
 use Rattle.std.specs.List.{slice_split, onto_first}
 use Rattle.std.proofs.lemmas.List.Splits.{slice_split-cons_no}
-use Rattle.abc_session.specs.Command.{Form, is_source, is_number, is_target, source, other, write_form, put_form, form_of_words, words, begins_with_space, has_byte}
+use Rattle.abc_session.specs.Command.{is_source, is_number, is_target, source, other, write_form, put_form, form_of_words, words, begins_with_space, has_byte}
 use Rattle.abc_session.specs.Command as form
 use Rattle.abc_session.specs.CommandView.{split_off}
 
 abbrev is_space : ℕ → Bool
 is_space byte = byte == 32
-
-and_false : (a : Bool) → (a && false) ≡ false
-and_false true = refl
-and_false false = refl
-
-middle_false : (a b : Bool) → (a && false && b) ≡ false
-middle_false true b = refl
-middle_false false b = refl
 
 no_source : is_source [] ≡ false
 unfolding is_source is_number is_target
@@ -53,7 +46,7 @@ pub two_words : (verb value : List ℕ) → form_of_words (split_off verb (split
 two_words [] [] = refl
 two_words [] (x ∷ xs) = refl
 two_words (v ∷ vs) [] =
-    let none : (bytes_eq (v ∷ vs) (codes "WRITE") && is_source []) ≡ false = ap (λ t. bytes_eq (v ∷ vs) (codes "WRITE") && t) no_source ∙ and_false (bytes_eq (v ∷ vs) (codes "WRITE")) in
+    let none : (bytes_eq (v ∷ vs) (codes "WRITE") && is_source []) ≡ false = ap (λ t. bytes_eq (v ∷ vs) (codes "WRITE") && t) no_source ∙ and-false (bytes_eq (v ∷ vs) (codes "WRITE")) in
     sym (ap (λ t. if t then form.write (source []) else other) none)
 two_words (v ∷ vs) (x ∷ xs) = refl
 
@@ -62,7 +55,7 @@ four_words v x j vs xs js [] =
     let is_put = bytes_eq (v ∷ vs) (codes "PUT") && bytes_eq (j ∷ js) (codes "IN") in
     let none : (is_target [] && not (bytes_eq (x ∷ xs) [])) ≡ false = ap (λ t. t && not (bytes_eq (x ∷ xs) [])) no_target in
     let all : (is_put && (is_target [] && not (bytes_eq (x ∷ xs) [])) && is_source (x ∷ xs)) ≡ false =
-    ap (λ t. is_put && t && is_source (x ∷ xs)) none ∙ middle_false is_put (is_source (x ∷ xs)) in
+    ap (λ t. is_put && t && is_source (x ∷ xs)) none ∙ ap (λ t. t && is_source (x ∷ xs)) (and-false is_put) in
     sym (ap (λ t. if t then form.put (source (x ∷ xs)) [] else other) all)
 four_words v x j vs xs js (n ∷ ns) = refl
 

@@ -21,3 +21,4 @@ mod Turns
 mod Places
 mod Broken
 mod Runs
+mod AskingRows

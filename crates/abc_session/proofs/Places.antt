@@ -1,12 +1,12 @@
 -- Where a session stands before a line, and what the bytes taken then settle.
 use Rattle.std.proofs.Common.{◌≡◌, ℕ, suc, ◌+◌, Bool, true, false, not, List, [], ◌∷◌, ◌++◌, length, take, refl, sym, ◌∙◌, ap, subst, arith, append_assoc, length-append}
 use Rattle.std.specs.Prelude.{map}
+use Rattle.std.specs.List.{concat}
 use Rattle.std.proofs.lemmas.List.{append-nil, map-append}
 use Rattle.std.proofs.lemmas.List.Elements.{filter-append}
+use Rattle.std.proofs.lemmas.List.Folds.{concat-append}
 use Rattle.std.proofs.Math.Seq.{take-append-add}
 use Rattle.abc_outside.specs.Outside.{Outside}
-use Rattle.abc_outside.specs.Session.{joined}
-use Rattle.abc_outside.proofs.Points.{joined-append}
 use Rattle.abc_session.specs.Lines.{Line, line_of, cut_at_lf, lines_by, is_blank, items_of}
 use Rattle.abc_session.specs.Reading.{pending_of, UsesLine, WantsMore, AsksMore}
 use Rattle.abc_session.specs.Session.{Work, outcome, after, replies}
@@ -51,7 +51,7 @@ module _ (bound : ℕ) (start : Work) (input said : List ℕ) (tells_said : Type
       ap (λ (ls : List (List ℕ)). items_of (map line_of ls)) cut
 
   pub settled_then : (n : ℕ) → WantsMore (pending_of reader) now.left reader.taken n → settled bound start (take n input) ≡ settled bound start place.used
-  settled_then n wants = ap (λ (ls : List Line). joined (replies bound 1 start ls)) (taken_then n wants)
+  settled_then n wants = ap (λ (ls : List Line). concat (replies bound 1 start ls)) (taken_then n wants)
 
   pub work_then : (n : ℕ) → WantsMore (pending_of reader) now.left reader.taken n → work ≡ after bound 1 start (whole_items (take n input))
   work_then n wants = place.work_is ∙ ap (λ (ls : List Line). after bound 1 start ls) (sym (taken_then n wants))
@@ -102,7 +102,7 @@ module _ (bound : ℕ) (start : Work) (input said : List ℕ) (tells_said : Type
           cut = more_cut;
           number = place.number ∙ ap length (sym items);
           work_is = place.work_is ∙ ap (λ (ls : List Line). after bound 1 start ls) (sym items);
-          said_is = λ told. same ∙ place.said_is told ∙ ap (λ (ls : List Line). said ++ joined (replies bound 1 start ls)) (sym items);
+          said_is = λ told. same ∙ place.said_is told ∙ ap (λ (ls : List Line). said ++ concat (replies bound 1 start ls)) (sym items);
         }
 
     -- behind an item
@@ -114,9 +114,9 @@ module _ (bound : ℕ) (start : Work) (input said : List ℕ) (tells_said : Type
         let reply = (outcome bound (suc served) work line).reply in
         let reply_is : (outcome bound (1 + length (whole_items place.used)) (after bound 1 start (whole_items place.used)) line).reply ≡ reply =
         ap (λ n. (outcome bound n (after bound 1 start (whole_items place.used)) line).reply) e ∙ ap (λ w. (outcome bound (suc served) w line).reply) (sym place.work_is) in
-        let replies_now : joined (replies bound 1 start (whole_items used_now)) ≡ settled bound start place.used ++ reply =
-        ap (λ (ls : List Line). joined (replies bound 1 start ls)) items ∙ ap joined (replies-append bound 1 start (whole_items place.used) line)
-        ∙ joined-append (replies bound 1 start (whole_items place.used)) _ ∙ ap (λ (l : List ℕ). settled bound start place.used ++ l) (append-nil _ ∙ reply_is) in
+        let replies_now : concat (replies bound 1 start (whole_items used_now)) ≡ settled bound start place.used ++ reply =
+        ap (λ (ls : List Line). concat (replies bound 1 start ls)) items ∙ ap concat (replies-append bound 1 start (whole_items place.used) line)
+        ∙ concat-append (replies bound 1 start (whole_items place.used)) _ ∙ ap (λ (l : List ℕ). settled bound start place.used ++ l) (append-nil _ ∙ reply_is) in
         record {
           used = used_now;
           split = split_now;
@@ -146,7 +146,3 @@ waits bound start input said tells_said served work reader now new stops told pl
   said_is = same ∙ place.said_is told ∙ ap (λ (l : List ℕ). said ++ l) (sym (settled_then bound start input said tells_said served work reader now place new.taken wants));
   image = λ c s stop. subst (λ w. OpensTo c w) (work_then bound start input said tells_said served work reader now place new.taken wants) (opens c s stop);
 }
-
-pub not_true : (b : Bool) → (b ≡ true → ⊥) → b ≡ false
-not_true true is = absurd (is refl)
-not_true false is = refl

@@ -53,14 +53,6 @@ module _ {H : Type 0} (clock : H → ℕ) (stopped : H → ℕ → List ℕ → 
   opening_points leaves =
       weaken clock stopped old mid _ _ leaves (λ c s p. point_start OpensTo (works bound 1 work items) (replies bound 1 work items) said c s p.0 p.1)
 
-  pub session_points : (new : H) (bound_mid : ℕ) (work_mid : Work) (items_mid : List Line) (said_mid : List ℕ) → bound_mid ≡ bound → work_mid ≡ work → items_mid ≡ items → said_mid ≡ said
-      → Leaves clock stopped old mid (λ c s. (s ≡ said) × (opens c ≡ Ok work.targets)) → Leaves clock stopped mid new (IsSessionPoint bound_mid 1 work_mid items_mid said_mid)
-      → Leaves clock stopped old new (IsSessionPoint bound 1 work items said)
-  session_points new bound_mid work_mid items_mid said_mid same_bound same_work same_items same_said opening serving =
-      run_after clock stopped old mid new _ _ (opening_points opening) serving
-      (λ c s p. subst (λ b. IsSessionPoint b 1 work items said c s) same_bound (subst (λ w. IsSessionPoint bound_mid 1 w items said c s) same_work
-      (subst (λ ls. IsSessionPoint bound_mid 1 work_mid ls said c s) same_items (subst (λ t. IsSessionPoint bound_mid 1 work_mid items_mid t c s) same_said p))))
-
 module _ {H : Type 0} (clock : H → ℕ) (stopped : H → ℕ → List ℕ → List ℕ → Type 0) (old : H) (image said : List ℕ) (bound : ℕ) (work : Work) (items : List Line)
     (still : IsStill clock stopped old image) (says : (c s : List ℕ) → stopped old (clock old) c s → s ≡ said) (start : IsStart image work) where
   -- before anything is done

@@ -1,7 +1,7 @@
 -- What a run answers.
 use Rattle.std.specs.Prelude.{◌≡◌, ◌⊎◌, ◌<◌, ℕ, List, [], ◌∷◌, ◌++◌, length, Option, None, Some, Ok, if◌then◌else◌, ◌==◌, get_or}
+use Rattle.std.specs.List.{concat}
 use Rattle.abc_outside.specs.Outside.{Outside, Rose}
-use Rattle.abc_outside.specs.Session.{joined}
 use Rattle.abc_journal.specs.Image.{layout_of}
 use Rattle.abc_session.specs.Lines.{Line, items_of, lines_of}
 use Rattle.abc_session.specs.Workspace.{opens}
@@ -28,7 +28,7 @@ items_in bound input = items_of (lines_of bound input)
 pub record IsComplete (image_bound input_bound : ℕ) (old new : Outside) : Type 0 where
   pub start : Work
   pub is_start : IsStart old.image start
-  pub said : new.said ≡ old.said ++ joined (replies image_bound 1 start (items_in input_bound old.left))
+  pub said : new.said ≡ old.said ++ concat (replies image_bound 1 start (items_in input_bound old.left))
   pub holds : Holds new.image (after image_bound 1 start (items_in input_bound old.left))
   pub read : new.left ≡ []
   pub in_bound : length old.left < input_bound

@@ -1,7 +1,7 @@
 -- What the bytes that were taken settle, and where a session stands before a line.
 use Rattle.std.specs.Prelude.{◌≡◌, ℕ, ◌+◌, false, List, ◌++◌, length, take}
+use Rattle.std.specs.List.{concat}
 use Rattle.abc_outside.specs.Outside.{Outside}
-use Rattle.abc_outside.specs.Session.{joined}
 use Rattle.abc_session.specs.Lines.{Line, cut_at_lf, lines_by, items_of}
 use Rattle.abc_session.specs.Session.{Work, after, replies}
 use Rattle.abc_session.specs.Reading.{pending_of}
@@ -14,7 +14,7 @@ whole_items bytes = items_of (lines_by false bytes)
 
 -- the output of the session over these items
 abbrev pub settled : ℕ → Work → List ℕ → List ℕ
-settled bound start bytes = joined (replies bound 1 start (whole_items bytes))
+settled bound start bytes = concat (replies bound 1 start (whole_items bytes))
 
 -- at a read so many bytes had been said as those taken until then settle
 abbrev pub AsksSettled : ℕ → Work → List ℕ → ℕ → ℕ × ℕ → Type 0

@@ -1,8 +1,9 @@
 //! The session: items one after the other, to the end of the input.
 ghost use Rattle.std.specs.Prelude.{◌≡◌, ◌≢◌, ◌≤◌, ◌<◌, ◌⊎◌, ◌++◌, suc, [], true, false, List, ℕ, length, ◌+◌, Ok, IfOk, OnOk, IsErrOf, IsTrue, if◌then◌else◌};
+ghost use Rattle.std.specs.List.{concat};
 ghost use Rattle.abc_outside.specs.Outside.{RoseByOne, IsFaultless};
 ghost use Rattle.abc_outside.specs.Stop.{Leaves, IsQuiet};
-ghost use Rattle.abc_outside.specs.Session.{joined, HasServed};
+ghost use Rattle.abc_outside.specs.Session.{HasServed};
 ghost use Rattle.abc_session.specs.Lines.{items_of, lines_of};
 ghost use Rattle.abc_session.specs.Reading.{lines_left, used_of};
 ghost use Rattle.abc_session.specs.Session.{Work, after, replies};
@@ -166,7 +167,7 @@ pub(crate) fn serve_all<H: Host>(
     requires none_taken { (H.now host.old).taken ≡ 0 }
 
     ensures said { H.tells_said → H.tells_input → OnOk result ((H.now host.new).said ≡ (H.now host.old).said
-        ++ joined (replies store.old.journal.bounds.image 1 (work_of store.old) (items_of (lines_of bound (H.now host.old).left)))) }
+        ++ concat (replies store.old.journal.bounds.image 1 (work_of store.old) (items_of (lines_of bound (H.now host.old).left)))) }
     ensures work { H.tells_input → OnOk result (work_of store.new ≡ after store.old.journal.bounds.image 1 (work_of store.old) (items_of (lines_of bound (H.now host.old).left))) }
     ensures holds { H.tells_image → OnOk result (Holds (H.now host.new).image (work_of store.new)) }
     ensures read { H.tells_input → OnOk result ((H.now host.new).left ≡ []) }

@@ -1,5 +1,5 @@
 mod Tails
-mod NumberTokens
+pub mod NumberTokens
 mod SignTokens
 mod InFront
 mod Judging
@@ -7,8 +7,13 @@ mod TextSteps
 mod TextLoop
 mod TokenSteps
 pub mod TextLaws
+pub mod Faults
+pub mod Placed
+pub mod Bare
+pub mod OneConversion
 mod TokenLaws
 mod Fronts
 mod EndsSteps
 mod ShapeLaws
-mod LongestTexts
+pub mod LongestTexts
+pub mod Conversions

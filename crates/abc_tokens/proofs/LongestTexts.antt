@@ -1,9 +1,10 @@
 -- A text is the longest that is spelled where it begins.
 use Rattle.std.proofs.Common.{◌≡◌, ℕ, zero, suc, ◌+◌, ◌-◌, ◌≤◌, inl, inr, Bool, true, false, ◌&&◌, ◌||◌, cond, List, [], ◌∷◌, ◌++◌, length, take, drop, Option, Some, None, refl, ap, sym, ◌∙◌, subst, arith, length-append, length-drop, append_assoc}
 use Rattle.std.specs.Prelude.{◌==◌, codes}
-use Rattle.std.specs.List.{list_any}
+use Rattle.std.specs.List.{list_any, list_all}
 use Rattle.std.proofs.lemmas.Bool.{ne_eqb, eq-eqb, eqb-true}
-use Rattle.std.proofs.lemmas.List.{append-nil, take-append-drop, take_at, drop_at, length-take-le}
+use Rattle.std.proofs.lemmas.List.{take-append-drop, take_at, drop_at, drop-drop, length-take-le}
+use Rattle.std.proofs.lemmas.Option.{same_Some}
 use Rattle.abc_tokens.specs.declared.kinds.TokenKind.{TokenKind}
 use Rattle.abc_tokens.specs.declared.kinds.TokenKind.TheVariants as kind
 use Rattle.abc_tokens.specs.Bytes.{is_small, is_capital, is_digit, is_quote, space, backquote, point, begins}
@@ -13,10 +14,11 @@ use Rattle.abc_tokens.specs.declared.kinds.Token.{Token}
 use Rattle.abc_tokens.specs.Tokens as tk
 use Rattle.abc_tokens.specs.Tokens.{Tokens, place, token}
 use Rattle.abc_tokens.specs.Scanned.{tail_length, digits, decimals, number_length, is_double, is_single, word_in_front, ending, text_ending}
+use Rattle.abc_tokens.proofs.Bare.{SpacesBehind, space_before}
 use Rattle.abc_tokens.proofs.InFront.{in_front, none_from_none, longest_in_front, none_in_front}
 use Rattle.abc_tokens.proofs.NumberTokens.{number_more, number_none}
 use Rattle.abc_tokens.proofs.TextSteps as steps
-use Rattle.abc_tokens.proofs.TextLaws.{converts_read, text_read, closes_ends, reads, Ends, no_word, no_quote, some_is}
+use Rattle.abc_tokens.proofs.TextLaws.{ending_nil, converts_read, text_read, closes_ends, reads, Ends, no_word, no_quote}
 
 -- ---- what stands behind a backquote changes no word before it
 
@@ -76,7 +78,7 @@ second_by false false false false false true = refl
 second_by false false false false false false = refl
 
 module _ (r : List ℕ) where
-  begins_end : (class : ℕ → Bool) → class backquote ≡ false → (z : List ℕ) → begins class (z ++ backquote ∷ r) ≡ begins class z
+  pub begins_end : (class : ℕ → Bool) → class backquote ≡ false → (z : List ℕ) → begins class (z ++ backquote ∷ r) ≡ begins class z
   begins_end class n [] = n
   begins_end class n (b ∷ z) = refl
 
@@ -104,7 +106,7 @@ module _ (r : List ℕ) where
   number_end [] = refl
   number_end (b ∷ z) = number_end_by b z (number_end z) (is_digit b) refl
 
-  word_end : (z : List ℕ) → word_in_front (z ++ backquote ∷ r) ≡ word_in_front z
+  pub word_end : (z : List ℕ) → word_in_front (z ++ backquote ∷ r) ≡ word_in_front z
   unfolding word_in_front
   word_end [] = (no_word r).2
   word_end (b ∷ z) =
@@ -122,7 +124,7 @@ module _ (r : List ℕ) where
 -- ---- the front of a text may stand before other bytes
 
 -- what follows a text doesn't begin with its quote
-closes_stops : {q : ℕ} {bytes rest : List ℕ} {ns : List (List ℕ)} → Closes q bytes rest ns → begins (λ b. b == q) rest ≡ false
+pub closes_stops : {q : ℕ} {bytes rest : List ℕ} {ns : List (List ℕ)} → Closes q bytes rest ns → begins (λ b. b == q) rest ≡ false
 closes_stops (closing h) = h
 closes_stops (doubled_quote d) = closes_stops d
 closes_stops (doubled_backquote d) = closes_stops d
@@ -130,26 +132,24 @@ closes_stops (character n m d) = closes_stops d
 closes_stops (conversion h v d) = closes_stops d
 
 -- the bytes of a text up to its last quote: it ends before all that doesn't begin with the quote, and else goes on
-record TextFront (q : ℕ) (bytes rest : List ℕ) (ns : List (List ℕ)) : Type 0 where
-  front : List ℕ
-  is : bytes ≡ front ++ q ∷ rest
-  ends : (t : List ℕ) → begins (λ b. b == q) t ≡ false → Closes q (front ++ q ∷ t) t ns
-  passes : (t quotes : List ℕ) (ms : List (List ℕ)) → ending (front ++ q ∷ q ∷ t) 0 true (q ∷ quotes) ms ≡ ending t 0 true (q ∷ quotes) (ms ++ ns)
+pub record TextFront (q : ℕ) (bytes rest : List ℕ) (ns : List (List ℕ)) : Type 0 where
+  pub front : List ℕ
+  pub is : bytes ≡ front ++ q ∷ rest
+  pub ends : (t : List ℕ) → begins (λ b. b == q) t ≡ false → Closes q (front ++ q ∷ t) t ns
+  pub passes : (t quotes : List ℕ) (ms : List (List ℕ)) → ending (front ++ q ∷ q ∷ t) 0 true (q ∷ quotes) ms ≡ ending t 0 true (q ∷ quotes) (ms ++ ns)
 
--- the bytes of a conversion up to its last backquote, which may stand before all; by themselves they are tokens
+-- the bytes of a conversion up to its last backquote, which may stand before all; by themselves they are tokens, behind which spaces alone stand
 pub record ConversionFront (bytes rest : List ℕ) (ns : List (List ℕ)) : Type 0 where
   pub front : List ℕ
   pub is : bytes ≡ front ++ backquote ∷ rest
   pub ends : (t : List ℕ) → Converts (front ++ backquote ∷ t) t ns
   pub tokens : (len : ℕ) → (ts : List Token) × Tokens false len front ts ns
+      × ((line : List ℕ) (p : ℕ) → p + length front ≡ len → drop p line ≡ front → SpacesBehind line p ts)
 
 -- a front that doesn't begin with a backquote
 begins_front : (y more x : List ℕ) → begins (λ b. b == backquote) (y ++ backquote ∷ more) ≡ false → begins (λ b. b == backquote) (y ++ x) ≡ false
 begins_front [] more x h = cc
 begins_front (b ∷ y) more x h = h
-
-step_on : (bytes : List ℕ) (inside : Bool) (quotes : List ℕ) (ms : List (List ℕ)) → ending bytes 0 inside quotes (ms ++ []) ≡ ending bytes 0 inside quotes ms
-step_on bytes inside quotes ms = ap (ending bytes 0 inside quotes) (append-nil ms)
 
 module _ {k : TokenKind} {n : ℕ} {bytes rest : List ℕ} {ns : List (List ℕ)} (l : IsLongest k n bytes) (c : ConversionFront (drop n bytes) rest ns) where
   whole_front : bytes ≡ (take n bytes ++ c.front) ++ backquote ∷ rest
@@ -167,6 +167,7 @@ module _ {k : TokenKind} {n : ℕ} {bytes rest : List ℕ} {ns : List (List ℕ)
       subst (λ x. Converts ((take n bytes ++ c.front) ++ backquote ∷ t) t (number_of k x ++ ns)) taken (word m (subst (λ x. Converts x t ns) (sym dropped) (c.ends t)))
 
   word_tokens : (len : ℕ) → (ts : List Token) × Tokens false len (take n bytes ++ c.front) ts (number_of k (take n bytes) ++ ns)
+      × ((line : List ℕ) (p : ℕ) → p + length (take n bytes ++ c.front) ≡ len → drop p line ≡ take n bytes ++ c.front → SpacesBehind line p ts)
   word_tokens len =
       let z = take n bytes ++ c.front in
       let e : word_in_front z ≡ Some (k, n) = sym (word_end rest z) ∙ ap word_in_front (sym whole_front) ∙ in_front k n bytes l in
@@ -178,6 +179,10 @@ module _ {k : TokenKind} {n : ℕ} {bytes rest : List ℕ} {ns : List (List ℕ)
         _,
         subst (λ x. Tokens false len z (token k (place len z) (place len z + n) ∷ behind.0) (number_of k x ++ ns)) taken
             (tk.word m (subst (λ x. Tokens false len x behind.0 ns) (sym dropped) behind.1)),
+        λ line p total at.
+            let many : length z ≡ n + length c.front = length-append (take n bytes) c.front ∙ ap (λ k. k + length c.front) size in
+            let here : p + n ≡ place len z + n = omega arith in
+            subst (λ x. SpacesBehind line x behind.0) here (behind.2 line (p + n) (omega arith) (sym (drop-drop n p line) ∙ ap (drop n) at ∙ dropped)),
       )
 
 -- what a front begins with, where it stands before a backquote or alone
@@ -186,7 +191,7 @@ begins_alone class [] r h = refl
 begins_alone class (b ∷ z) r h = h
 
 mutual
-  text_front : {q : ℕ} {bytes rest : List ℕ} {ns : List (List ℕ)} → Closes q bytes rest ns → is_quote q ≡ true → TextFront q bytes rest ns
+  pub text_front : {q : ℕ} {bytes rest : List ℕ} {ns : List (List ℕ)} → Closes q bytes rest ns → is_quote q ≡ true → TextFront q bytes rest ns
   text_front (closing {q = q} {rest = rest} h) u = record {
     front = [];
     is = refl;
@@ -198,21 +203,21 @@ mutual
         front = q ∷ q ∷ f.front;
         is = ap (λ x. q ∷ q ∷ x) f.is;
         ends = λ t b. doubled_quote (f.ends t b);
-        passes = λ t quotes ms. (steps.doubled q q q (f.front ++ q ∷ q ∷ t) quotes (eq-eqb q q refl) (inl refl)).same.2 ms ∙ step_on (f.front ++ q ∷ q ∷ t) true (q ∷ quotes) ms ∙ f.passes t quotes ms;
+        passes = λ t quotes ms. (steps.doubled q q q (f.front ++ q ∷ q ∷ t) quotes (eq-eqb q q refl) (inl refl)).same.2 ms ∙ ending_nil (f.front ++ q ∷ q ∷ t) true (q ∷ quotes) ms ∙ f.passes t quotes ms;
       }
   text_front (doubled_backquote {q = q} {bytes = bytes} {rest = rest} {ns = ns} d) u = let f : TextFront q bytes rest ns = text_front d u in
       record {
         front = backquote ∷ backquote ∷ f.front;
         is = ap (λ x. backquote ∷ backquote ∷ x) f.is;
         ends = λ t b. doubled_backquote (f.ends t b);
-        passes = λ t quotes ms. (steps.doubled backquote backquote q (f.front ++ q ∷ q ∷ t) quotes refl (inr refl)).same.2 ms ∙ step_on (f.front ++ q ∷ q ∷ t) true (q ∷ quotes) ms ∙ f.passes t quotes ms;
+        passes = λ t quotes ms. (steps.doubled backquote backquote q (f.front ++ q ∷ q ∷ t) quotes refl (inr refl)).same.2 ms ∙ ending_nil (f.front ++ q ∷ q ∷ t) true (q ∷ quotes) ms ∙ f.passes t quotes ms;
       }
   text_front (character {q = q} {c = c} {bytes = bytes} {rest = rest} {ns = ns} n m d) u = let f : TextFront q bytes rest ns = text_front d u in
       record {
         front = c ∷ f.front;
         is = ap (λ x. c ∷ x) f.is;
         ends = λ t b. character n m (f.ends t b);
-        passes = λ t quotes ms. (steps.stays c q (f.front ++ q ∷ q ∷ t) quotes (ne_eqb c q n) (ne_eqb c backquote m)).same.2 ms ∙ step_on (f.front ++ q ∷ q ∷ t) true (q ∷ quotes) ms ∙ f.passes t quotes ms;
+        passes = λ t quotes ms. (steps.stays c q (f.front ++ q ∷ q ∷ t) quotes (ne_eqb c q n) (ne_eqb c backquote m)).same.2 ms ∙ ending_nil (f.front ++ q ∷ q ∷ t) true (q ∷ quotes) ms ∙ f.passes t quotes ms;
       }
   text_front (conversion {q = q} {bytes = bytes} {more = more} {rest = rest} {ms = ks} {ns = ns} h v d) u =
       let f : TextFront q more rest ns = text_front d u in
@@ -227,14 +232,23 @@ mutual
         is = ap (λ x. backquote ∷ x) (c.is ∙ ap (λ x. c.front ++ backquote ∷ x) f.is ∙ sym (parts (q ∷ rest)));
         ends = λ t b. conversion (clear (q ∷ t)) (converted (q ∷ t)) (f.ends t b);
         passes = λ t quotes ms. (steps.converts backquote q (y ++ q ∷ q ∷ t) quotes (no_quote (λ q. (backquote == q) ≡ false) refl refl q u) refl (clear (q ∷ q ∷ t))).same.2 ms
-            ∙ step_on (y ++ q ∷ q ∷ t) false (q ∷ quotes) ms ∙ converts_read (converted (q ∷ q ∷ t)) q quotes ms ∙ f.passes t quotes (ms ++ ks)
+            ∙ ending_nil (y ++ q ∷ q ∷ t) false (q ∷ quotes) ms ∙ converts_read (converted (q ∷ q ∷ t)) q quotes ms ∙ f.passes t quotes (ms ++ ks)
             ∙ ap (ending t 0 true (q ∷ quotes)) (append_assoc ms ks ns);
       }
 
   pub conversion_front : {bytes rest : List ℕ} {ns : List (List ℕ)} → Converts bytes rest ns → ConversionFront bytes rest ns
-  conversion_front (finish {rest = rest}) = record { front = []; is = refl; ends = λ t. finish; tokens = λ len. ([], tk.none) }
+  conversion_front (finish {rest = rest}) = record { front = []; is = refl; ends = λ t. finish; tokens = λ len. ([], tk.none, λ line p total at. ap (list_all (λ b. b == space)) at) }
   conversion_front (blank {bytes = bytes} {rest = rest} {ns = ns} d) = let c : ConversionFront bytes rest ns = conversion_front d in
-      record { front = space ∷ c.front; is = ap (λ x. space ∷ x) c.is; ends = λ t. blank (c.ends t); tokens = λ len. ((c.tokens len).0, tk.blank (c.tokens len).1) }
+      record {
+        front = space ∷ c.front;
+        is = ap (λ x. space ∷ x) c.is;
+        ends = λ t. blank (c.ends t);
+        tokens = λ len. (
+          (c.tokens len).0,
+          tk.blank (c.tokens len).1,
+          λ line p total at. space_before line c.front p (c.tokens len).0 at ((c.tokens len).2 line (p + 1) (omega arith) (sym (drop-drop 1 p line) ∙ ap (drop 1) at)),
+        );
+      }
   conversion_front (word {kind = k} {n = n} {bytes = bytes} {rest = rest} {ns = ns} l d) = let c : ConversionFront (drop n bytes) rest ns = conversion_front d in
       record { front = take n bytes ++ c.front; is = whole_front l c; ends = word_ends l c; tokens = word_tokens l c }
   conversion_front (text {q = q} {bytes = bytes} {more = more} {rest = rest} {ms = ks} {ns = ns} u d v) =
@@ -246,14 +260,31 @@ mutual
         is = ap (λ x. q ∷ x) (f.is ∙ ap (λ x. f.front ++ q ∷ x) c.is ∙ sym (parts (backquote ∷ rest)));
         ends = λ t. text u (subst (λ z. Closes q z (c.front ++ backquote ∷ t) ks) (sym (parts (backquote ∷ t)))
             (f.ends (c.front ++ backquote ∷ t) (begins_same t rest (λ b. b == q) c.front ∙ ap (begins (λ b. b == q)) (sym c.is) ∙ closes_stops d))) (c.ends t);
-        tokens = λ len. (_, tk.text u (f.ends c.front (begins_alone (λ b. b == q) c.front rest (ap (begins (λ b. b == q)) (sym c.is) ∙ closes_stops d))) (c.tokens len).1);
+        tokens = λ len. (
+          _,
+          tk.text u (f.ends c.front (begins_alone (λ b. b == q) c.front rest (ap (begins (λ b. b == q)) (sym c.is) ∙ closes_stops d))) (c.tokens len).1,
+          λ line p total at.
+              let many : length (f.front ++ q ∷ c.front) ≡ length f.front + suc (length c.front) = length-append f.front (q ∷ c.front) in
+              let k = suc (suc (length f.front)) in
+              let quoted : length (f.front ++ q ∷ []) ≡ suc (length f.front) = omega (arith, length-append f.front (q ∷ [])) in
+              let behind : drop (suc (length f.front)) (f.front ++ q ∷ c.front) ≡ c.front =
+              ap (drop (suc (length f.front))) (sym (append_assoc f.front (q ∷ []) c.front)) ∙ drop_at (f.front ++ q ∷ []) c.front (suc (length f.front)) quoted in
+              let here : p + k ≡ place len c.front = omega arith in
+              subst (λ x. SpacesBehind line x (c.tokens len).0) here ((c.tokens len).2 line (p + k) (omega arith) (sym (drop-drop k p line) ∙ ap (drop k) at ∙ behind)),
+        );
       }
   conversion_front (other {b = b} {bytes = bytes} {rest = rest} {ns = ns} s c k u n d) = let f : ConversionFront bytes rest ns = conversion_front d in
       record {
         front = b ∷ f.front;
         is = ap (λ x. b ∷ x) f.is;
         ends = λ t. other s c k u (none_in_front (b ∷ (f.front ++ backquote ∷ t)) (word_same t rest (b ∷ f.front) ∙ ap (λ x. word_in_front (b ∷ x)) (sym f.is) ∙ none_from_none (b ∷ bytes) n)) (f.ends t);
-        tokens = λ len. (_, tk.other s c u (none_in_front (b ∷ f.front) (sym (word_end rest (b ∷ f.front)) ∙ ap (λ x. word_in_front (b ∷ x)) (sym f.is) ∙ none_from_none (b ∷ bytes) n)) (f.tokens len).1);
+        tokens = λ len. (
+          _,
+          tk.other s c u (none_in_front (b ∷ f.front) (sym (word_end rest (b ∷ f.front)) ∙ ap (λ x. word_in_front (b ∷ x)) (sym f.is) ∙ none_from_none (b ∷ bytes) n)) (f.tokens len).1,
+          λ line p total at.
+              let here : p + 1 ≡ place len (b ∷ f.front) + 1 = omega arith in
+              subst (λ x. SpacesBehind line x (f.tokens len).0) here ((f.tokens len).2 line (p + 1) (omega arith) (sym (drop-drop 1 p line) ∙ ap (drop 1) at)),
+        );
       }
 
 -- ---- the longest
@@ -268,7 +299,7 @@ module _ (q : ℕ) (bytes rest : List ℕ) (ns : List (List ℕ)) (u : is_quote 
       let g = text_front e u in
       let same : bytes ≡ g.front ++ q ∷ t = sym (take-append-drop j bytes) ∙ ap (λ x. x ++ drop j bytes) g.is ∙ append_assoc g.front (q ∷ []) (drop j bytes) ∙ ap (λ x. g.front ++ q ∷ x) f in
       let other_end : text_ending (q ∷ bytes) ≡ Some (t, ks) = text_read (subst (λ x. Closes q x t ks) (sym same) (g.ends t h)) u in
-      let size : length t ≡ length rest = ap (λ x. length x.0) (some_is (sym other_end ∙ text_read d u)) in omega arith
+      let size : length t ≡ length rest = ap (λ x. length x.0) (same_Some _ _ (sym other_end ∙ text_read d u)) in omega arith
   no_longer j l ks e [] f true h = cc
   no_longer j l ks e (c ∷ t) f true h =
       let g = text_front e u in

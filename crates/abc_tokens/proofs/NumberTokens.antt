@@ -16,7 +16,7 @@ pub digit_test : (c : ℕ) → IsDigit c → is_digit c ≡ true
 digit_test c h = and_from _ _ (le-leb 48 c h.0) (le-leb c 57 h.1)
 
 -- one more digit in front
-digits_more : (b : ℕ) (bytes : List ℕ) → is_digit b ≡ true → digits (b ∷ bytes) ≡ suc (digits bytes)
+pub digits_more : (b : ℕ) (bytes : List ℕ) → is_digit b ≡ true → digits (b ∷ bytes) ≡ suc (digits bytes)
 digits_more b bytes h = let one : 1 + digits bytes ≡ suc (digits bytes) = omega arith in ap (λ x. cond x (1 + digits bytes) 0) h ∙ one
 
 digits_none : (b : ℕ) (bytes : List ℕ) → is_digit b ≡ false → digits (b ∷ bytes) ≡ 0

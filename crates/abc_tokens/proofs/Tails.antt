@@ -41,20 +41,16 @@ module _ (letter : ℕ → Bool) where
     by_tests false true false ex ey ez = (omega arith, tt, λ m l h. none_on ex (ap (λ v. v && goes_on letter c) ey ∙ ez) m h)
     by_tests false false z ex ey ez = (omega arith, tt, λ m l h. none_on ex (ap (λ v. v && goes_on letter c) ey) m h)
 
+  -- a byte that a word doesn't go on with is no tail
+  no_byte : (b : ℕ) → goes_on letter b ≡ false → (m : ℕ) → m ≤ 1 → IsTail letter (take m (b ∷ [])) → m ≤ 0
+  no_byte b e zero l h = omega arith
+  no_byte b e (suc zero) l h = cc
+  no_byte b e (suc (suc m)) l h = absurd (omega arith)
+
   one_byte : (b : ℕ) (x y : Bool) → goes_on letter b ≡ x → IsLongestTail letter (b ∷ []) (cond (x || (y && false)) 1 0)
   one_byte b true y e = (omega arith, e, λ m l h. l)
-  one_byte b false true e = (omega arith, tt, most)
-    where
-      most : (m : ℕ) → m ≤ 1 → IsTail letter (take m (b ∷ [])) → m ≤ 0
-      most zero l h = omega arith
-      most (suc zero) l h = cc
-      most (suc (suc m)) l h = absurd (omega arith)
-  one_byte b false false e = (omega arith, tt, most)
-    where
-      most : (m : ℕ) → m ≤ 1 → IsTail letter (take m (b ∷ [])) → m ≤ 0
-      most zero l h = omega arith
-      most (suc zero) l h = cc
-      most (suc (suc m)) l h = absurd (omega arith)
+  one_byte b false true e = (omega arith, tt, no_byte b e)
+  one_byte b false false e = (omega arith, tt, no_byte b e)
 
   pub longest_tail : (bytes : List ℕ) → IsLongestTail letter bytes (tail_length letter bytes)
   longest_tail [] = (omega arith, tt, λ m l h. l)

@@ -3,6 +3,7 @@ use Rattle.std.proofs.Common.{◌≡◌, ℕ, zero, suc, ◌+◌, ◌-◌, ◌�
 use Rattle.std.specs.Prelude.{◌==◌}
 use Rattle.std.proofs.lemmas.Bool.{ne_eqb, eqb-false, or_cases}
 use Rattle.std.proofs.lemmas.List.{append-nil, append_assoc, drop-drop}
+use Rattle.std.proofs.lemmas.Option.{same_Some}
 use Rattle.abc_tokens.specs.declared.kinds.TokenKind.{TokenKind}
 use Rattle.abc_tokens.specs.Bytes.{is_quote, space, backslash, backquote, begins}
 use Rattle.abc_tokens.specs.Words.{IsLongest, number_of}
@@ -11,7 +12,7 @@ use Rattle.abc_tokens.specs.Scanned.{ending, text_ending, behind_text, at_word, 
 use Rattle.abc_tokens.specs.Reading.{resumed}
 use Rattle.abc_tokens.proofs.InFront.{in_front, none_from_none, longest_in_front, none_in_front}
 use Rattle.abc_tokens.proofs.TextSteps as steps
-use Rattle.abc_tokens.proofs.TextSteps.{ending_skip, word_step}
+use Rattle.abc_tokens.proofs.TextSteps.{word_step}
 
 -- a quote by its two codes
 pub quote_is : (q : ℕ) → is_quote q ≡ true → (q ≡ 34) ⊎ (q ≡ 39)
@@ -61,7 +62,7 @@ module _ (b : ℕ) (bytes : List ℕ) (w : TokenKind × ℕ) (e : word_in_front 
 -- ---- a closed text is read to its end
 
 -- the numbers with none behind them
-ending_nil : (bytes : List ℕ) (inside : Bool) (quotes : List ℕ) (ms : List (List ℕ)) → ending bytes 0 inside quotes (ms ++ []) ≡ ending bytes 0 inside quotes ms
+pub ending_nil : (bytes : List ℕ) (inside : Bool) (quotes : List ℕ) (ms : List (List ℕ)) → ending bytes 0 inside quotes (ms ++ []) ≡ ending bytes 0 inside quotes ms
 ending_nil bytes inside quotes ms = ap (ending bytes 0 inside quotes) (append-nil ms)
 
 ending_assoc : (bytes : List ℕ) (inside : Bool) (quotes : List ℕ) (ks ms ns : List (List ℕ)) → ending bytes 0 inside quotes ((ks ++ ms) ++ ns) ≡ ending bytes 0 inside quotes (ks ++ (ms ++ ns))
@@ -110,9 +111,6 @@ text_read d u = closes_read d u [] []
 
 -- ---- what is read to its end is a closed text
 
-pub some_is : {A : Type 0} {x y : A} → Some x ≡ Some y → x ≡ y
-some_is e = cc
-
 module _ (rest : List ℕ) (ns : List (List ℕ)) where
   -- what stands behind a text within the open ones: the rest of the conversion and of the text round it, and so on
   abbrev pub Outer : List ℕ → List ℕ → List (List ℕ) → Type 0
@@ -138,7 +136,7 @@ module _ (rest : List ℕ) (ns : List (List ℕ)) where
   module _ (b : ℕ) (bytes : List ℕ) (ih : Reads bytes) (q : ℕ) (quotes : List ℕ) (ms : List (List ℕ)) where
     -- behind the quote that ends the text
     ended : (qs : List ℕ) → behind_text (ending bytes) bytes qs ms ≡ Some (rest, ns) → Outer qs bytes (ms ++ [])
-    ended [] e = let p = some_is e in (ap (λ x. x.0) p, append-nil ms ∙ ap (λ x. x.1) p)
+    ended [] e = let p = same_Some _ _ e in (ap (λ x. x.0) p, append-nil ms ∙ ap (λ x. x.1) p)
     ended (p ∷ qs) e = outer_nil (p ∷ qs) bytes ms (ih 0 false p qs ms e)
 
     at_quote : b ≡ q → (y : Bool) → begins (λ c. c == q) bytes ≡ y

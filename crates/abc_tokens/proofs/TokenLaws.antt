@@ -2,6 +2,7 @@
 use Rattle.std.proofs.Common.{◌≡◌, ℕ, zero, suc, ◌+◌, ◌-◌, ◌<◌, Bool, true, false, cond, List, [], ◌∷◌, ◌++◌, length, take, drop, Option, Some, None, refl, ap, sym, ◌∙◌, subst, arith, length-drop, eqb-true}
 use Rattle.std.specs.Prelude.{◌==◌, if◌then◌else◌}
 use Rattle.std.proofs.lemmas.Bool.{ne_eqb, eqb-false}
+use Rattle.std.proofs.lemmas.Option.{same_Some}
 use Rattle.abc_tokens.specs.declared.kinds.Token.{Token}
 use Rattle.abc_tokens.specs.declared.kinds.TokenKind.{TokenKind}
 use Rattle.abc_tokens.specs.declared.kinds.TokenKind.TheVariants as kind
@@ -14,7 +15,7 @@ use Rattle.abc_tokens.specs.Tokens.{place, token, Tokens, none, comment, blank, 
 use Rattle.abc_tokens.specs.Scanned.{Ending, Found, onto, scanned, with_text, with_word, word_in_front, text_ending}
 use Rattle.abc_tokens.specs.Reads.{IsScan, ScanFault}
 use Rattle.abc_tokens.proofs.InFront.{in_front, none_from_none, longest_in_front, none_in_front}
-use Rattle.abc_tokens.proofs.TextLaws.{text_read, text_closed, text_open, closes_ends, Ends, no_quote, no_bytes, word_no_space, word_no_comment, word_no_quote, some_is}
+use Rattle.abc_tokens.proofs.TextLaws.{text_read, text_closed, text_open, closes_ends, Ends, no_quote, no_bytes, word_no_space, word_no_comment, word_no_quote}
 use Rattle.abc_tokens.proofs.TokenSteps.{scanned_skip}
 
 module _ (loose : Bool) (len : ℕ) where
@@ -147,7 +148,7 @@ pub answer_tokens : (line : List ℕ) (ts : List Token) → has_characters line 
 answer_tokens line ts c s = record {
   characters = c;
   found = (s.0, are_tokens false (length line) line ts s.0 s.2, s.1);
-  only = λ us ns d. ap (λ x. x.0) (some_is (sym (found false (length line) d) ∙ s.2));
+  only = λ us ns d. ap (λ x. x.0) (same_Some _ _ (sym (found false (length line) d) ∙ s.2));
 }
 
 pub answer_fault : (line : List ℕ) (fault : TokenFault) → has_characters line ≡ true → ScanFault line fault → HasFault line fault

@@ -1,6 +1,7 @@
 -- What of a line matters for the lines of an item.
-use Rattle.std.specs.Prelude.{◌≡◌, ℕ, ◌+◌, ◌*◌, ◌/◌, Bool, true, false, not, ◌&&◌, ◌||◌, ◌==◌, List, [], ◌∷◌, length, Option, Some, None, slice_get, slice_range, codes, bytes_eq, if◌then◌else◌}
+use Rattle.std.specs.Prelude.{◌≡◌, ℕ, ◌+◌, ◌*◌, ◌/◌, ◌≤◌, Bool, true, false, not, ◌&&◌, ◌||◌, ◌==◌, List, [], ◌∷◌, length, Option, Some, None, slice_get, slice_range, codes, bytes_eq, if◌then◌else◌}
 use Rattle.std.specs.List.{list_any}
+use Rattle.abc_num.specs.Literal.{IsNumberToken}
 use Rattle.abc_num.specs.declared.limits.TheConstants.{TAB_WIDTH}
 use Rattle.abc_tokens.specs.declared.kinds.First.{First}
 use Rattle.abc_tokens.specs.declared.kinds.First.TheVariants as first
@@ -43,6 +44,12 @@ last (t ∷ u ∷ ts) = last (u ∷ ts)
 -- the bytes of a token
 abbrev pub spelling : List ℕ → Token → List ℕ
 spelling text t = slice_range text t.start t.end
+
+-- a token stands in its line, and a number token is spelled as one
+pub record IsPlaced (line : List ℕ) (t : Token) : Type 0 where
+  pub ordered : t.start ≤ t.end
+  pub within : t.end ≤ length line
+  pub digits : t.kind ≡ Number → IsNumberToken (spelling line t)
 
 -- whether there is a token, spelled so
 abbrev pub is_spelled : List ℕ → Option Token → List ℕ → Bool

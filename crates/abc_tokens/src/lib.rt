@@ -10,7 +10,7 @@ mod texts;
 mod words;
 
 pub use kinds::{First, Shape, Token, TokenFault, TokenKind};
-pub use laws::{conversion_tokens, longest_text, one_reading, one_shape};
+pub use laws::{conversion_tokens, longest_text, one_reading, one_shape, placed_tokens};
 pub use scan::tokens;
 pub use shaping::shape;
 

@@ -8,6 +8,7 @@ use Rattle.std.specs.declared.cmp.Ordering.{Ordering}
 use Rattle.std.specs.declared.cmp.Ordering.TheVariants.{Less, Equal, Greater}
 use Rattle.std.specs.Ordering.{match_ordering, ordering_reverse}
 use Rattle.std.specs.Cmp.Lexicographic.{nat_list_cmp_total}
+use Rattle.abc_num.proofs.Parts.{each_weaker}
 use Rattle.abc_tree.specs.Templates.{template_text, template_cmp}
 use Rattle.abc_tree.specs.Ordered.{RiseBy, found_by, placed_by, without_by}
 use Rattle.abc_tree.specs.Search.{IsAt, IsGap}
@@ -34,10 +35,6 @@ at_place : {X : Type 0} (P : X → Type 0) (xs : List X) (i : ℕ) (d : X) → A
 at_place P [] i d each lt = absurd (omega (arith, lt))
 at_place P (x ∷ xs) zero d each lt = each.0
 at_place P (x ∷ xs) (suc i) d each lt = at_place P xs i d each.1 (omega (arith, lt))
-
-each_weaker : {X : Type 0} (P Q : X → Type 0) → ((x : X) → P x → Q x) → (xs : List X) → AllByRecursion P xs → AllByRecursion Q xs
-each_weaker P Q f [] each = tt
-each_weaker P Q f (x ∷ xs) each = (f x each.0, each_weaker P Q f xs each.1)
 
 -- what was read at a place
 pub read_at : {X : Type 0} (xs : List X) (i : ℕ) (x : X) → i < length xs → x ≡ slice_index_or xs i x → Some x ≡ slice_get xs i

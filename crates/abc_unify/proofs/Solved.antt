@@ -3,6 +3,8 @@ use Rattle.std.proofs.Common.{◌≡◌, ◌≢◌, ℕ, zero, suc, ◌+◌, ◌
 use Rattle.std.proofs.Math.ListN.{length-append, get_or-append}
 use Rattle.std.proofs.Math.Seq.{get_or-append_seam}
 use Rattle.std.proofs.lemmas.List.{get_or_past}
+use Rattle.std.specs.Prelude.{Result, IfOk}
+use Rattle.std.proofs.lemmas.Result.{IfOk-weaker}
 use Rattle.std.proofs.lemmas.Bool.{cases_eq, cases_lt}
 use Rattle.std.proofs.lemmas.Grind.{common_steps}
 use Rattle.std.proofs.lemmas.List.Elements.{All-append, All-nil, All-head, All-weaker, All-contains}
@@ -25,7 +27,8 @@ use Rattle.abc_unify.specs.Kinds.{AskHolds, AsksHold, KindIn, children}
 use Rattle.abc_unify.specs.Slots.{SlotHolds, Meets, SlotsIn, SlotIn, KeepsSolutions, HasNoSolution, follow, root_within, root_of, IsAmong, IsChild, IsRanked}
 use Rattle.abc_unify.specs.Graphs.{HasSolution, IsUnsolvable}
 use Rattle.abc_unify.specs.States.{IsSolved}
-use Rattle.abc_unify.proofs.Steps.{All-left, All-right, All-one}
+use Rattle.abc_num.proofs.Parts.{All-front, All-behind}
+use Rattle.abc_unify.proofs.Steps.{All-one}
 use Rattle.abc_unify.proofs.Solutions.{ranked_has_solution}
 use Rattle.abc_unify.proofs.Among.{among_in, are_in_more}
 use Rattle.abc_unify.proofs.Walking.{no_child}
@@ -39,7 +42,7 @@ solved_with slots slots2 demands d q old made count same inside keeps ranks = re
   few = omega (arith, old.few);
   inside = inside;
   made = subst (λ n. All (DemandIn n) (demands ++ d ∷ [])) (sym count) (All-append (DemandIn (length slots)) demands (d ∷ []) old.made (All-one (DemandIn (length slots)) d made));
-  from_demands = λ v m. (keeps.onward v (old.from_demands v (All-left (Holds v) demands (d ∷ []) m)) (All-one (AskHolds v) q ((same v).0 (All-head (Holds v) d [] (All-right (Holds v) demands (d ∷ []) m))))).0;
+  from_demands = λ v m. (keeps.onward v (old.from_demands v (All-front (Holds v) demands (d ∷ []) m)) (All-one (AskHolds v) q ((same v).0 (All-head (Holds v) d [] (All-behind (Holds v) demands (d ∷ []) m))))).0;
   to_demands = λ v m.
       let r : Meets v slots × AsksHold v (q ∷ []) = keeps.back v m (All-nil (AskHolds v)) in
       All-append (Holds v) demands (d ∷ []) (old.to_demands v r.0) (All-one (Holds v) d ((same v).1 (All-head (AskHolds v) q [] r.1)));
@@ -49,7 +52,7 @@ solved_with slots slots2 demands d q old made count same inside keeps ranks = re
 
 pub clash_with : (slots : List Slot) (demands : List Demand) (d : Demand) (q : Ask) → IsSolved slots demands → ((v : ℕ → Ground) → Holds v d ↔ AskHolds v q) → HasNoSolution slots (q ∷ []) → IsUnsolvable (demands ++ d ∷ [])
 clash_with slots demands d q old same never v m =
-    never v (old.from_demands v (All-left (Holds v) demands (d ∷ []) m)) (All-one (AskHolds v) q ((same v).0 (All-head (Holds v) d [] (All-right (Holds v) demands (d ∷ []) m))))
+    never v (old.from_demands v (All-front (Holds v) demands (d ∷ []) m)) (All-one (AskHolds v) q ((same v).0 (All-head (Holds v) d [] (All-behind (Holds v) demands (d ∷ []) m))))
 
 pub solved_has_solution : (slots : List Slot) (demands : List Demand) → IsSolved slots demands → HasSolution demands
 solved_has_solution slots demands solved =
@@ -57,9 +60,15 @@ solved_has_solution slots demands solved =
     (mended_types r.0, λ a. mended_is_regular (r.0 a), meets_mended r.0 (length slots) demands solved.made (solved.to_demands r.0 r.1))
 
 -- a number past those that demands name is named by none
-pub next_unnamed : (n : ℕ) (demands : List Demand) → All (DemandIn n) demands → IsUnnamed n demands
+next_unnamed : (n : ℕ) (demands : List Demand) → All (DemandIn n) demands → IsUnnamed n demands
 next_unnamed n demands made =
     All-weaker (DemandIn n) (λ d. Contains (named d) n → ⊥) (λ d inside found. absurd (let h : n < n = All-contains (λ x. x < n) (named d) n (names_below n d inside) found in omega arith)) demands made
+
+-- so is the one that is answered with the next number
+pub answered_unnamed : {E : Type 0} (answer : Result VarId E) (n : ℕ) (demands seen : List Demand) → demands ≡ seen → All (DemandIn n) demands → IfOk answer (λ a. a.0 ≡ n) → IfOk answer (λ (a : VarId). IsUnnamed a.0 seen)
+answered_unnamed answer n demands seen same made number =
+    let next : IsUnnamed n seen = subst (λ (ds : List Demand). IsUnnamed n ds) same (next_unnamed n demands made) in
+    IfOk-weaker answer (λ a. a.0 ≡ n) (λ (a : VarId). IsUnnamed a.0 seen) (λ a is. subst (λ m. IsUnnamed m seen) (sym is) next) number
 
 pub all_in_more : (n m : ℕ) → n ≤ m → (demands : List Demand) → All (DemandIn n) demands → All (DemandIn m) demands
 all_in_more n m h demands made = All-weaker (DemandIn n) (DemandIn m) (demand_in_more n m h) demands made
@@ -219,7 +228,7 @@ module _ (slots : List Slot) (inside : SlotsIn slots) (new : Slot) where
     few = omega (arith, count, few);
     inside = inside_more new_in;
     made = All-append (DemandIn (length (slots ++ new ∷ []))) demands (demand.Is a t ∷ []) (all_in_more (length slots) (length (slots ++ new ∷ [])) (omega (arith, count)) demands old.made) (All-one (DemandIn (length (slots ++ new ∷ []))) (demand.Is a t) made_here);
-    from_demands = λ v m. meets_newer v (old.from_demands v (All-left (Holds v) demands (demand.Is a t ∷ []) m)) (here v (All-head (Holds v) (demand.Is a t) [] (All-right (Holds v) demands (demand.Is a t ∷ []) m)));
+    from_demands = λ v m. meets_newer v (old.from_demands v (All-front (Holds v) demands (demand.Is a t ∷ []) m)) (here v (All-head (Holds v) (demand.Is a t) [] (All-behind (Holds v) demands (demand.Is a t ∷ []) m)));
     to_demands = λ v m. All-append (Holds v) demands (demand.Is a t ∷ []) (old.to_demands v (meets_older v m)) (All-one (Holds v) (demand.Is a t) (there v m));
     rank = anew old.rank;
     ranked = ranked_more old.rank old.ranked new_in;

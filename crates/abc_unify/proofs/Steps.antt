@@ -1,11 +1,11 @@
 -- Each step keeps the solutions.
 use Rattle.std.proofs.Common.{◌≡◌, ℕ, ◌+◌, ◌*◌, ◌<◌, ◌≤◌, ◌↔◌, inl, inr, List, [], ◌∷◌, ◌++◌, length, get_or, set, sym, ◌∙◌, ap, subst, arith, refl, get_or-set_other, get_or-set_same}
-use Rattle.std.proofs.Math.ListN.{length-set, length-append, get_or-append}
-use Rattle.std.proofs.lemmas.List.{get_or-append-add}
+use Rattle.std.proofs.Math.ListN.{length-set}
 use Rattle.std.proofs.lemmas.Bool.{cases_eq}
 use Rattle.std.proofs.lemmas.List.Elements.{All-append, All-cons, All-nil, All-head, All-tail}
 use Rattle.std.proofs.lemmas.List.Sums.{sum_by-cons, sum_by-append, sum_by_push, sum_by-set}
 use Rattle.std.specs.List.{All, sum_by}
+use Rattle.abc_num.proofs.Parts.{All-front, All-behind}
 use Rattle.abc_num.specs.declared.types.Ground.{Ground, out-Ground}
 use Rattle.abc_num.specs.declared.types.Ground.TheOpen.{Ground-F}
 use Rattle.abc_terms.specs.declared.term.VarId.{VarId}
@@ -46,12 +46,6 @@ SlotsIn-set slots r s h m f i =
       | inr ne ↦ rw (get_or-set_other slots r i s (Root Free) ne, length-set) (m i)
     ]
 
-pub All-left : {X : Type 0} (P : X → Type 0) (xs ys : List X) → All P (xs ++ ys) → All P xs
-All-left P xs ys m k d h = subst (λ y. P y) (get_or-append xs ys d k h) (m k d (omega (arith, length-append xs ys)))
-
-pub All-right : {X : Type 0} (P : X → Type 0) (xs ys : List X) → All P (xs ++ ys) → All P ys
-All-right P xs ys m k d h = subst (λ y. P y) (get_or-append-add xs ys k d) (m (length xs + k) d (omega (arith, length-append xs ys)))
-
 pub All-one : {X : Type 0} (P : X → Type 0) (x : X) → P x → All P (x ∷ [])
 All-one P x p = All-cons P x [] p (All-nil P)
 
@@ -60,18 +54,18 @@ pub narrow_keeps : (slots : List Slot) (work more : List Ask) (a : VarId) (root 
 narrow_keeps slots work more a root held asked kind h same is both = record {
   onward = λ v m w.
       let here : Fits v (out-Ground (v root)) held = subst (λ x. SlotHolds v (v root) x) is (m root) in
-      let wanted : Fits v (out-Ground (v a.0)) asked = All-head (AskHolds v) (Is a asked) [] (All-right (AskHolds v) work (Is a asked ∷ []) w) in
+      let wanted : Fits v (out-Ground (v a.0)) asked = All-head (AskHolds v) (Is a asked) [] (All-behind (AskHolds v) work (Is a asked ∷ []) w) in
       let wanted_here : Fits v (out-Ground (v root)) asked = subst (λ g. Fits v (out-Ground g) asked) (same v m) wanted in
       let got : Fits v (out-Ground (v root)) kind × AsksHold v more = (both v (out-Ground (v root))).0 (here, wanted_here) in (
         Meets-set v slots root (Root kind) h m got.0,
-        All-append (AskHolds v) work more (All-left (AskHolds v) work (Is a asked ∷ []) w) got.1,
+        All-append (AskHolds v) work more (All-front (AskHolds v) work (Is a asked ∷ []) w) got.1,
       );
   back = λ v m w.
       let here : Fits v (out-Ground (v root)) kind = Meets-at_set v slots root (Root kind) h m in
-      let got : Fits v (out-Ground (v root)) held × Fits v (out-Ground (v root)) asked = (both v (out-Ground (v root))).1 (here, All-right (AskHolds v) work more w) in
+      let got : Fits v (out-Ground (v root)) held × Fits v (out-Ground (v root)) asked = (both v (out-Ground (v root))).1 (here, All-behind (AskHolds v) work more w) in
       let old : Meets v slots = Meets-unset v slots root (Root kind) m (subst (λ x. SlotHolds v (v root) x) (sym is) got.0) in
       let wanted : Fits v (out-Ground (v a.0)) asked = subst (λ g. Fits v (out-Ground g) asked) (sym (same v old)) got.1 in
-      (old, All-append (AskHolds v) work (Is a asked ∷ []) (All-left (AskHolds v) work more w) (All-one (AskHolds v) (Is a asked) wanted));
+      (old, All-append (AskHolds v) work (Is a asked ∷ []) (All-front (AskHolds v) work more w) (All-one (AskHolds v) (Is a asked) wanted));
 }
 
 -- the same where the kind at the root stays
@@ -79,20 +73,20 @@ pub keep_keeps : (slots : List Slot) (work more : List Ask) (a : VarId) (root : 
 keep_keeps slots work more a root held asked same is both = record {
   onward = λ v m w.
       let here : Fits v (out-Ground (v root)) held = subst (λ x. SlotHolds v (v root) x) is (m root) in
-      let wanted : Fits v (out-Ground (v a.0)) asked = All-head (AskHolds v) (Is a asked) [] (All-right (AskHolds v) work (Is a asked ∷ []) w) in
+      let wanted : Fits v (out-Ground (v a.0)) asked = All-head (AskHolds v) (Is a asked) [] (All-behind (AskHolds v) work (Is a asked ∷ []) w) in
       let wanted_here : Fits v (out-Ground (v root)) asked = subst (λ g. Fits v (out-Ground g) asked) (same v m) wanted in
-      (m, All-append (AskHolds v) work more (All-left (AskHolds v) work (Is a asked ∷ []) w) ((both v (out-Ground (v root))).0 (here, wanted_here)).1);
+      (m, All-append (AskHolds v) work more (All-front (AskHolds v) work (Is a asked ∷ []) w) ((both v (out-Ground (v root))).0 (here, wanted_here)).1);
   back = λ v m w.
       let here : Fits v (out-Ground (v root)) held = subst (λ x. SlotHolds v (v root) x) is (m root) in
-      let got : Fits v (out-Ground (v root)) held × Fits v (out-Ground (v root)) asked = (both v (out-Ground (v root))).1 (here, All-right (AskHolds v) work more w) in
+      let got : Fits v (out-Ground (v root)) held × Fits v (out-Ground (v root)) asked = (both v (out-Ground (v root))).1 (here, All-behind (AskHolds v) work more w) in
       let wanted : Fits v (out-Ground (v a.0)) asked = subst (λ g. Fits v (out-Ground g) asked) (sym (same v m)) got.1 in
-      (m, All-append (AskHolds v) work (Is a asked ∷ []) (All-left (AskHolds v) work more w) (All-one (AskHolds v) (Is a asked) wanted));
+      (m, All-append (AskHolds v) work (Is a asked ∷ []) (All-front (AskHolds v) work more w) (All-one (AskHolds v) (Is a asked) wanted));
 }
 
 pub narrow_clash : (slots : List Slot) (work : List Ask) (a : VarId) (root : ℕ) (held asked : Kind) → ((v : ℕ → Ground) → Meets v slots → v a.0 ≡ v root) → get_or slots root (Root Free) ≡ Root held → ((v : ℕ → Ground) (g : Ground-F Ground) → Fits v g held → Fits v g asked → ⊥) → HasNoSolution slots (work ++ Is a asked ∷ [])
 narrow_clash slots work a root held asked same is never v m w =
     let here : Fits v (out-Ground (v root)) held = subst (λ x. SlotHolds v (v root) x) is (m root) in
-    let wanted : Fits v (out-Ground (v a.0)) asked = All-head (AskHolds v) (Is a asked) [] (All-right (AskHolds v) work (Is a asked ∷ []) w) in
+    let wanted : Fits v (out-Ground (v a.0)) asked = All-head (AskHolds v) (Is a asked) [] (All-behind (AskHolds v) work (Is a asked ∷ []) w) in
     never v (out-Ground (v root)) here (subst (λ g. Fits v (out-Ground g) asked) (same v m) wanted)
 
 pairs_equal : (v : ℕ → Ground) (xs ys : List VarId) → types v xs ≡ types v ys → AsksHold v (pairs xs ys)
@@ -185,32 +179,32 @@ kind_in slots root held is inside = subst (λ x. SlotIn (length slots) root x) i
 pub link_keeps : (slots : List Slot) (work : List Ask) (high low : VarId) (held : Kind) → high.0 < length slots → get_or slots high.0 (Root Free) ≡ Root held → KeepsSolutions slots (work ++ Equal high low ∷ []) (set slots high.0 (Link low)) (work ++ Is low held ∷ [])
 link_keeps slots work high low held h is = record {
   onward = λ v m w.
-      let equal : v high.0 ≡ v low.0 = All-head (AskHolds v) (Equal high low) [] (All-right (AskHolds v) work (Equal high low ∷ []) w) in
+      let equal : v high.0 ≡ v low.0 = All-head (AskHolds v) (Equal high low) [] (All-behind (AskHolds v) work (Equal high low ∷ []) w) in
       let here : Fits v (out-Ground (v high.0)) held = subst (λ x. SlotHolds v (v high.0) x) is (m high.0) in (
         Meets-set v slots high.0 (Link low) h m equal,
-        All-append (AskHolds v) work (Is low held ∷ []) (All-left (AskHolds v) work (Equal high low ∷ []) w) (All-one (AskHolds v) (Is low held) (subst (λ g. Fits v (out-Ground g) held) equal here)),
+        All-append (AskHolds v) work (Is low held ∷ []) (All-front (AskHolds v) work (Equal high low ∷ []) w) (All-one (AskHolds v) (Is low held) (subst (λ g. Fits v (out-Ground g) held) equal here)),
       );
   back = λ v m w.
       let equal : v high.0 ≡ v low.0 = Meets-at_set v slots high.0 (Link low) h m in
-      let there : Fits v (out-Ground (v low.0)) held = All-head (AskHolds v) (Is low held) [] (All-right (AskHolds v) work (Is low held ∷ []) w) in (
+      let there : Fits v (out-Ground (v low.0)) held = All-head (AskHolds v) (Is low held) [] (All-behind (AskHolds v) work (Is low held ∷ []) w) in (
         Meets-unset v slots high.0 (Link low) m (subst (λ x. SlotHolds v (v high.0) x) (sym is) (subst (λ g. Fits v (out-Ground g) held) (sym equal) there)),
-        All-append (AskHolds v) work (Equal high low ∷ []) (All-left (AskHolds v) work (Is low held ∷ []) w) (All-one (AskHolds v) (Equal high low) equal),
+        All-append (AskHolds v) work (Equal high low ∷ []) (All-front (AskHolds v) work (Is low held ∷ []) w) (All-one (AskHolds v) (Equal high low) equal),
       );
 }
 
 -- one question in place of another that says the same
 pub instead : (slots : List Slot) (work : List Ask) (d e : Ask) (slots2 : List Slot) (work2 : List Ask) → ((v : ℕ → Ground) → Meets v slots → (AskHolds v d ↔ AskHolds v e)) → KeepsSolutions slots (work ++ e ∷ []) slots2 work2 → KeepsSolutions slots (work ++ d ∷ []) slots2 work2
 instead slots work d e slots2 work2 same keeps = record {
-  onward = λ v m w. keeps.onward v m (All-append (AskHolds v) work (e ∷ []) (All-left (AskHolds v) work (d ∷ []) w) (All-one (AskHolds v) e ((same v m).0 (All-head (AskHolds v) d [] (All-right (AskHolds v) work (d ∷ []) w)))));
+  onward = λ v m w. keeps.onward v m (All-append (AskHolds v) work (e ∷ []) (All-front (AskHolds v) work (d ∷ []) w) (All-one (AskHolds v) e ((same v m).0 (All-head (AskHolds v) d [] (All-behind (AskHolds v) work (d ∷ []) w)))));
   back = λ v m w.
       let old : Meets v slots × AsksHold v (work ++ e ∷ []) = keeps.back v m w in
-      (old.0, All-append (AskHolds v) work (d ∷ []) (All-left (AskHolds v) work (e ∷ []) old.1) (All-one (AskHolds v) d ((same v old.0).1 (All-head (AskHolds v) e [] (All-right (AskHolds v) work (e ∷ []) old.1)))));
+      (old.0, All-append (AskHolds v) work (d ∷ []) (All-front (AskHolds v) work (e ∷ []) old.1) (All-one (AskHolds v) d ((same v old.0).1 (All-head (AskHolds v) e [] (All-behind (AskHolds v) work (e ∷ []) old.1)))));
 }
 
 -- a question whose answer is yes already
 pub spare : (slots : List Slot) (work : List Ask) (d : Ask) → ((v : ℕ → Ground) → Meets v slots → AskHolds v d) → KeepsSolutions slots (work ++ d ∷ []) slots work
 spare slots work d holds = record {
-  onward = λ v m w. (m, All-left (AskHolds v) work (d ∷ []) w);
+  onward = λ v m w. (m, All-front (AskHolds v) work (d ∷ []) w);
   back = λ v m w. (m, All-append (AskHolds v) work (d ∷ []) w (All-one (AskHolds v) d (holds v m)));
 }
 

@@ -2,7 +2,7 @@
 use Rattle.std.proofs.Common.{◌≡◌, ℕ, zero, suc, ◌+◌, ◌<◌, ◌≤◌, List, [], ◌∷◌, ◌++◌, length, get_or, set, take, drop, sym, ◌∙◌, ap, subst, arith, refl}
 use Rattle.std.proofs.Math.ListN.{length-append, get_or-append}
 use Rattle.std.proofs.Math.Seq.{take-length, take-append_seam}
-use Rattle.std.proofs.lemmas.List.{take-append-le, length-take-le, append-nil, take-append-drop, get_or_read, drop-append-le}
+use Rattle.std.proofs.lemmas.List.{take-take, take-append-le, length-take-le, append-nil, take-append-drop, get_or_read, drop-append-le}
 use Rattle.std.proofs.lemmas.Grind.{common_steps}
 use Rattle.std.proofs.lemmas.List.Elements.{All-append, All-push, All-weaker, All-nil, All-head, All-tail}
 use Rattle.std.proofs.lemmas.List.Quantifiers.{all_pairs_push}
@@ -30,9 +30,6 @@ take_set (suc c) (suc i) x (s ∷ slots) = ap (λ t. s ∷ t) (take_set c i x sl
 take_rolled : (c : ℕ) (slots : List Slot) (log : List Entry) → take c (rolled slots log) ≡ rolled (take c slots) log
 take_rolled c slots [] = refl
 take_rolled c slots (e ∷ log) = take_set c e.at.0 e.was (rolled slots log) ∙ ap (λ s. set s e.at.0 e.was) (take_rolled c slots log)
-
-take_less : {X : Type 0} (c n : ℕ) (xs : List X) → c ≤ n → take c (take n xs) ≡ take c xs
-take_less c n xs h = grind (arith, common_steps)
 
 drop_split : {X : Type 0} (m n : ℕ) (xs : List X) → m ≤ n → n ≤ length xs → drop m xs ≡ drop m (take n xs) ++ drop n xs
 drop_split m n xs h k = ap (drop m) (sym (take-append-drop n xs)) ∙ drop-append-le m (take n xs) (drop n xs) (omega (arith, length-take-le n xs k))
@@ -136,7 +133,7 @@ module _ (slots : List Slot) (log : List Entry) (demands : List Demand) (history
       let split : drop q.writes log ≡ drop q.writes (take p.writes log) ++ drop p.writes log = drop_split q.writes p.writes log before.writes past.few_writes in
       let slots_same : take q.variables (rolled (take p.variables (rolled slots (drop p.writes log))) (drop q.writes (take p.writes log))) ≡ take q.variables (rolled slots (drop q.writes log)) =
       take_rolled q.variables (take p.variables (rolled slots (drop p.writes log))) (drop q.writes (take p.writes log))
-      ∙ (ap (λ s. rolled s (drop q.writes (take p.writes log))) (take_less q.variables p.variables (rolled slots (drop p.writes log)) before.variables)
+      ∙ (ap (λ s. rolled s (drop q.writes (take p.writes log))) (take-take q.variables p.variables (rolled slots (drop p.writes log)) before.variables)
       ∙ (sym (take_rolled q.variables (rolled slots (drop p.writes log)) (drop q.writes (take p.writes log)))
       ∙ ap (take q.variables) (sym (rolled-append slots (drop q.writes (take p.writes log)) (drop p.writes log)) ∙ ap (λ d. rolled slots d) (sym split)))) in
       record {
@@ -144,8 +141,8 @@ module _ (slots : List Slot) (log : List Entry) (demands : List Demand) (history
         few_writes = omega (arith, before.writes, length-take-le p.writes log past.few_writes);
         few_demands = omega (arith, before.demands, length-take-le p.demands demands past.few_demands);
         solved = subst (λ s. IsSolved s (take q.demands (take p.demands demands))) (sym slots_same)
-            (subst (λ d. IsSolved (take q.variables (rolled slots (drop q.writes log))) d) (sym (take_less q.demands p.demands demands before.demands)) old.solved);
-        entries = subst (λ l. All (EntryIn q.variables) l) (sym (take_less q.writes p.writes log before.writes)) old.entries;
+            (subst (λ d. IsSolved (take q.variables (rolled slots (drop q.writes log))) d) (sym (take-take q.demands p.demands demands before.demands)) old.solved);
+        entries = subst (λ l. All (EntryIn q.variables) l) (sym (take-take q.writes p.writes log before.writes)) old.entries;
       }
 
   pub kept_back : (k : ℕ) → k < length history → p ≡ get_or history k p → IsKept (take p.variables (rolled slots (drop p.writes log))) (take p.writes log) (take p.demands demands) (take k history)
@@ -176,7 +173,7 @@ earlier_take (suc k) demands (q ∷ history) = ap (λ t. record { count = q.vari
 earlier_less : (n : ℕ) (demands : List Demand) (history : List Point) → All (λ q. q.demands ≤ n) history → earlier (take n demands) history ≡ earlier demands history
 earlier_less n demands [] h = refl
 earlier_less n demands (q ∷ history) h =
-    let one : take q.demands (take n demands) ≡ take q.demands demands = take_less q.demands n demands (All-head (λ r. r.demands ≤ n) q history h) in
+    let one : take q.demands (take n demands) ≡ take q.demands demands = take-take q.demands n demands (All-head (λ r. r.demands ≤ n) q history h) in
     let rest : earlier (take n demands) history ≡ earlier demands history = earlier_less n demands history (All-tail (λ r. r.demands ≤ n) q history h) in
     cc
 

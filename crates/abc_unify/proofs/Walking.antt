@@ -20,7 +20,8 @@ use Rattle.abc_unify.specs.declared.kind.Ask.TheVariants.{Is}
 use Rattle.abc_unify.specs.Kinds.{types, Fits, IsTrain, IsCollection, AskHolds}
 use Rattle.abc_unify.specs.Slots.{SlotHolds, Meets, follow, root_within, root_of, IsRoot, IsAmong, IsChild, KeepsSolutions}
 use Rattle.abc_unify.specs.Cycles.{IsText, LeadsTo, IsBelow, mark_weight, IsDone, Marked, IsOnCycle}
-use Rattle.abc_unify.proofs.Steps.{All-left, All-one, Meets-set, Meets-at_set, Meets-unset}
+use Rattle.abc_num.proofs.Parts.{All-front}
+use Rattle.abc_unify.proofs.Steps.{All-one, Meets-set, Meets-at_set, Meets-unset}
 
 -- a part of this outer form leads to it
 smaller : (g : Ground) (form : Ground-F Ground) (h : Ground) → out-Ground g ≡ form → size h < size_of_form form → LeadsTo g h
@@ -150,11 +151,11 @@ module _ (slots : List Slot) (marks : List ℕ) where
         record {
           same_length = length-set marks top next ∙ m.same_length;
           from_two = omega (arith, m.from_two);
-          inside = All-left (λ i. i < length slots) stack (top ∷ []) m.inside;
-          roots = All-left (λ i. IsRoot (get_or slots i (Root Free))) stack (top ∷ []) m.roots;
+          inside = All-front (λ i. i < length slots) stack (top ∷ []) m.inside;
+          roots = All-front (λ i. IsRoot (get_or slots i (Root Free))) stack (top ∷ []) m.roots;
           on_the_way = λ k d below.
               let apart : get_or stack k d ≢ top = AllPairs-last (λ i j. i ≡ j → ⊥) stack top m.distinct k d below in
-              other top next (get_or stack k d) apart ∙ All-left (λ i. get_or marks i 0 ≡ 1) stack (top ∷ []) m.on_the_way k d below;
+              other top next (get_or stack k d) apart ∙ All-front (λ i. get_or marks i 0 ≡ 1) stack (top ∷ []) m.on_the_way k d below;
           all_on_the_way = λ i mark. elim (cases_eq i top) [
             | inl e ↦ let s : get_or (set marks top next) i 0 ≡ get_or (set marks top next) top 0 = ap (λ j. get_or (set marks top next) j 0) e in absurd (omega (arith, m.from_two))
             | inr ne ↦ still stack top i ne (Contains-push_cases stack top i (m.all_on_the_way i (sym (other top next i ne) ∙ mark)))

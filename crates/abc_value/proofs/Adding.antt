@@ -1,17 +1,19 @@
 -- A list with one element more.
 use Rattle.std.proofs.Common.{◌≡◌, ◌≢◌, ℕ, ◌+◌, ◌≤◌, max, List, [], ◌∷◌, length, refl, sym, ap, ◌∙◌, subst, arith, None}
+use Rattle.std.proofs.lemmas.Bool.{le-ltb}
 use Rattle.std.proofs.lemmas.Bool.Decides.{nat_tests}
 use Rattle.std.specs.declared.cmp.Ordering.{Ordering}
 use Rattle.std.specs.declared.cmp.Ordering.TheVariants.{Less, Equal, Greater}
 use Rattle.std.specs.Ordering.{match_ordering, ordering_reverse}
 use Rattle.abc_num.specs.declared.limits.TheConstants.{MOST_ELEMENTS, MOST_VALUE_HEIGHT, MOST_WEIGHT}
-use Rattle.abc_value.specs.Tree.{Tree, list, trees}
+use Rattle.abc_value.specs.Tree.{Tree, Trees, list, trees, no_trees, more}
 use Rattle.abc_value.specs.Order.{order}
 use Rattle.abc_value.specs.Sizes.{height_of, weight_of, length_of, trees_height, trees_weight, sizes_fault, size_fault}
 use Rattle.abc_value.specs.Regular.{IsOrdered, IsRegular, AllRegular}
 use Rattle.abc_value.specs.Parts.{parts_of}
 use Rattle.abc_value.specs.Changes.{add}
 use Rattle.abc_value.proofs.OrderLaws.{order-reverse}
+use Rattle.abc_value.proofs.Placing.{less_not_greater}
 use Rattle.abc_value.proofs.Rows.{listed_trees, count_trees}
 
 -- what stands in the list with e
@@ -53,21 +55,18 @@ rising_behind e x (y ∷ ys) h k r = at (order y e) r
     at Equal r = (h, r)
     at Greater r = (h, r)
 
-less_not_past : (r : Ordering) → r ≡ Less → r ≢ Greater
-less_not_past r h k = cc
-
-pub tail_ordered : (x : Tree) (xs : List Tree) → IsOrdered (trees (x ∷ xs)) → IsOrdered (trees xs)
-tail_ordered x [] h = tt
-tail_ordered x (y ∷ ys) h = h.1
+pub tail_ordered : (t : Tree) (ts : Trees) → IsOrdered (more t ts) → IsOrdered ts
+tail_ordered t no_trees h = tt
+tail_ordered t (more u us) h = h.1
 
 rising_by : (e x : Tree) (xs : List Tree) (o : Ordering) → order x e ≡ o → IsOrdered (trees (x ∷ xs)) → IsOrdered (trees (add e xs)) → IsOrdered (trees (match_ordering o (x ∷ add e xs) (e ∷ x ∷ xs) (e ∷ x ∷ xs)))
-rising_by e x xs Less q h r = rising_behind e x xs (less_not_past _ q) h r
+rising_by e x xs Less q h r = rising_behind e x xs (less_not_greater _ q) h r
 rising_by e x xs Equal q h r = (not_less_turned (order x e) (order e x) (order-reverse e x) (λ k. let p : Equal ≡ Less = sym q ∙ k in cc), h)
 rising_by e x xs Greater q h r = (not_less_turned (order x e) (order e x) (order-reverse e x) (λ k. let p : Greater ≡ Less = sym q ∙ k in cc), h)
 
 pub add_ordered : (e : Tree) (xs : List Tree) → IsOrdered (trees xs) → IsOrdered (trees (add e xs))
 add_ordered e [] h = tt
-add_ordered e (x ∷ xs) h = rising_by e x xs (order x e) refl h (add_ordered e xs (tail_ordered x xs h))
+add_ordered e (x ∷ xs) h = rising_by e x xs (order x e) refl h (add_ordered e xs (tail_ordered x (trees xs) h))
 
 module _ (e : Tree) (xs : List Tree) where
   long : length xs + 1 ≡ length_of (list (trees (add e xs)))
@@ -96,6 +95,10 @@ pub record AreSmall (m h w : ℕ) : Type 0 where
 pub small_sizes : (m h w : ℕ) → sizes_fault m h w ≡ None → AreSmall m h w
 unfolding sizes_fault
 small_sizes m h w e = grind (arith, nat_tests)
+
+pub no_fault : (m h w : ℕ) → m ≤ MOST_ELEMENTS → h ≤ MOST_VALUE_HEIGHT → w ≤ MOST_WEIGHT → sizes_fault m h w ≡ None
+unfolding sizes_fault
+no_fault m h w a b c = rw (le-ltb MOST_ELEMENTS m a, le-ltb MOST_VALUE_HEIGHT h b, le-ltb MOST_WEIGHT w c) refl
 
 -- what the fields of a list hold after e has joined it
 pub added_invariant : (e : Tree) (xs ys : List Tree) (h w : ℕ) → ys ≡ add e xs → IsRegular e → IsRegular (list (trees xs)) → h ≡ max (height_of (list (trees xs))) (height_of e + 1) → w ≡ weight_of (list (trees xs)) + weight_of e → sizes_fault (length xs + 1) h w ≡ None → (h ≡ height_of (list (trees ys))) × (w ≡ weight_of (list (trees ys))) × IsRegular (list (trees ys))

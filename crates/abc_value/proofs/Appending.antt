@@ -1,6 +1,6 @@
 -- A text that is added to piece by piece.
 use Rattle.std.proofs.Common.{◌≡◌, ℕ, zero, suc, ◌+◌, ◌<◌, ◌≤◌, List, [], ◌∷◌, ◌++◌, length, map, get_or, drop, refl, sym, ap, ◌∙◌, subst, arith, add-one, length-append, Result, Err}
-use Rattle.std.proofs.lemmas.List.{drop_more, append_assoc, append-nil}
+use Rattle.std.proofs.lemmas.List.{drop_more, drop_all, append_assoc, append-nil}
 use Rattle.std.specs.List.{flat_map}
 use Rattle.abc_value.specs.declared.faults.PrintFault.{PrintFault}
 use Rattle.abc_value.specs.declared.faults.PrintFault.TheVariants.{TooLong}
@@ -61,14 +61,8 @@ left_none : (separator : List ℕ) (i : ℕ) → left separator i [] ≡ []
 left_none separator zero = refl
 left_none separator (suc i) = refl
 
-drop_past : (texts : List (List ℕ)) (i : ℕ) → length texts ≤ i → drop i texts ≡ []
-drop_past [] zero h = refl
-drop_past [] (suc i) h = refl
-drop_past (t ∷ ts) zero h = absurd (omega arith)
-drop_past (t ∷ ts) (suc i) h = drop_past ts i (omega arith)
-
 pub left_all : (separator : List ℕ) (texts : List (List ℕ)) (i : ℕ) → length texts ≤ i → left separator i (drop i texts) ≡ []
-left_all separator texts i h = ap (left separator i) (drop_past texts i h) ∙ left_none separator i
+left_all separator texts i h = ap (left separator i) (drop_all i texts h) ∙ left_none separator i
 
 -- the displays of parts are as many as the parts, and each stands at its place
 pub displays_count : (xs : List Tree) → length (displays (trees xs)) ≡ length xs

@@ -1,17 +1,18 @@
 -- Which numbers have finitely many decimals, and what these spell.
-use Rattle.std.proofs.Common.{◌≡◌, ℕ, zero, suc, ◌+◌, ◌-◌, ◌*◌, ◌/◌, ◌%◌, ◌^◌, ◌<◌, ◌≤◌, Bool, true, false, List, [], ◌∷◌, ◌++◌, length, Some, None, refl, sym, ap, ◌∙◌, subst, arith, inl, inr, length-append}
+use Rattle.std.proofs.Common.{◌≡◌, ℕ, zero, suc, ◌+◌, ◌*◌, ◌/◌, ◌%◌, ◌^◌, ◌<◌, ◌≤◌, Bool, true, false, List, [], ◌∷◌, ◌++◌, length, Some, None, refl, sym, ap, ◌∙◌, subst, arith, inl, inr, length-append}
 use Rattle.std.specs.Prelude.{All, unsigned_abs, decimal}
 use Rattle.std.specs.Int.{IsGcd, ◌∣◌}
 use Rattle.std.proofs.lemmas.Bool.{cases_lt}
 use Rattle.std.proofs.lemmas.Bool.Decides.{nat_tests}
 use Rattle.std.proofs.lemmas.List.{append_assoc}
+use Rattle.std.proofs.lemmas.List.Elements.{All-nil, All-cons, All-append}
 use Rattle.std.proofs.lemmas.Nat.Gcd.{IsGcd-from_zero, IsGcd-from_mod, IsGcd-swap, mod-eq-zero_of_dvd, dvd_of_mod-eq-zero, le_of_dvd, dvd_trans}
 use Rattle.std.proofs.lemmas.Fmt.{decimal_by_steps_wide}
 use Rattle.std.proofs.Math.Nat.{div-add-mod, mul-add-div, mod-lt, mod-eq_of_lt, mul-add-mod_self_left, pow-suc, pow-zero, pow-le-pow_right, mul-le-mul_left, div-mul_cancel, div-le_self, dvd-mul_left, pos_of_dvd_of_pos}
 use Rattle.abc_num.specs.Number.{Fraction, IsNumber}
 use Rattle.abc_num.specs.Literal.{IsDigit, digits_value, literal_numerator, behind, point}
 use Rattle.abc_num.proofs.Decimal.{digit-below}
-use Rattle.abc_num.proofs.Digits.{digits_value-append}
+use Rattle.abc_num.proofs.Digits.{digits_value-append, one_digit}
 use Rattle.abc_num.proofs.Divisors.{gauss, step_down, step_up, step_left}
 use Rattle.abc_num.proofs.LowestTerms.{bounds, number_lowest}
 use Rattle.abc_num.proofs.Spelling.{in_front-digits, behind-digits, in_front-point, behind-point}
@@ -133,17 +134,8 @@ quotients_have_no_decimals f n e b s =
     let w = ends_within (length (behind b)) f.denominator (number_lowest f n).1 (bounds f n).1 (spelled_ends b f n s) in
     places_none f.denominator e w.0 w.2 w.1
 
-one_digit : (c : ℕ) → digits_value (c ∷ []) ≡ c - 48
-one_digit c = omega (arith, ap (λ x. (c - 48) * x) (pow-zero 10))
-
 one_digit_only : (c : ℕ) → IsDigit c → All IsDigit (c ∷ [])
-one_digit_only c h zero d l = h
-one_digit_only c h (suc k) d l = absurd (omega arith)
-
-all_digits-append : (xs ys : List ℕ) → All IsDigit xs → All IsDigit ys → All IsDigit (xs ++ ys)
-all_digits-append [] ys a b k d l = b k d l
-all_digits-append (x ∷ xs) ys a b zero d l = a zero d (omega arith)
-all_digits-append (x ∷ xs) ys a b (suc k) d l = all_digits-append xs ys (λ i e m. a (suc i) e (omega arith)) b k d (omega arith)
+one_digit_only c h = All-cons IsDigit c [] h (All-nil IsDigit)
 
 -- what holds of the digits of n
 record AreDigitsOf (n : ℕ) (ds : List ℕ) : Type 0 where
@@ -154,7 +146,7 @@ record AreDigitsOf (n : ℕ) (ds : List ℕ) : Type 0 where
 last_digit : (n d : ℕ) (ds : List ℕ) → d < 10 → AreDigitsOf n ds → AreDigitsOf (10 * n + d) (ds ++ (48 + d) ∷ [])
 last_digit n d ds h a =
     let ten : 10 ^ 1 ≡ 10 = refl in record {
-      digits = all_digits-append ds ((48 + d) ∷ []) a.digits (one_digit_only (48 + d) (omega arith, omega arith));
+      digits = All-append IsDigit ds ((48 + d) ∷ []) a.digits (one_digit_only (48 + d) (omega arith, omega arith));
       value = omega (arith, digits_value-append ds ((48 + d) ∷ []), one_digit (48 + d), ap (λ z. digits_value ds * z) ten, a.value);
       some = omega (arith, length-append ds ((48 + d) ∷ []));
     }
@@ -175,7 +167,7 @@ decimals_digits : (top b k : ℕ) → All IsDigit (decimals top b k)
 decimals_digits top b zero i d l = absurd (omega arith)
 decimals_digits top b (suc k) i d l =
     let small : top * 10 ^ suc k / b % 10 < 10 = mod-lt (top * 10 ^ suc k / b) (omega arith) in
-    all_digits-append (decimals top b k) ((48 + top * 10 ^ suc k / b % 10) ∷ []) (λ j e m. decimals_digits top b k j e m) (one_digit_only (48 + top * 10 ^ suc k / b % 10) (omega arith, omega arith)) i d l
+    All-append IsDigit (decimals top b k) ((48 + top * 10 ^ suc k / b % 10) ∷ []) (λ j e m. decimals_digits top b k j e m) (one_digit_only (48 + top * 10 ^ suc k / b % 10) (omega arith, omega arith)) i d l
 
 -- ten times a whole part and the next digit are the whole part of ten times as much
 next_digit : (a b : ℕ) → 0 < b → 10 * (a / b) + 10 * a / b % 10 ≡ 10 * a / b

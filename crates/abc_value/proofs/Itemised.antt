@@ -3,6 +3,7 @@ use Rattle.std.proofs.Common.{◌≡◌, ◌≢◌, ℕ, zero, suc, ◌<◌, ◌
 use Rattle.std.specs.Prelude.{IfOk, IfErr}
 use Rattle.std.specs.Option.{ok_or}
 use Rattle.std.proofs.lemmas.List.{length-map}
+use Rattle.std.proofs.lemmas.Option.{slice_get_read}
 use Rattle.std.proofs.lemmas.Bool.{cases_lt}
 use Rattle.std.proofs.lemmas.Bool.Decides.{nat_tests}
 use Rattle.abc_num.specs.Number.{Fraction, whole_of}
@@ -51,11 +52,6 @@ not_found xs None f e = let same : f ≡ NotWhole = cc in ap Err (sym same)
 not_found xs (Some (pos zero)) f e = let same : f ≡ OutOfRange = cc in ap Err (sym same)
 not_found xs (Some (pos (suc i))) f e = fault_by_test xs i f e
 not_found xs (Some (negsuc i)) f e = let same : f ≡ OutOfRange = cc in ap Err (sym same)
-
-pub read_at : {T : Type 0} → (xs : List T) (k : ℕ) (x : T) → k < length xs → x ≡ get_or xs k x → slice_get xs k ≡ Some x
-read_at [] k x h e = absurd (omega arith)
-read_at (y ∷ ys) zero x h e = ap Some (sym e)
-read_at (y ∷ ys) (suc k) x h e = read_at ys k x (omega arith) e
 
 -- a copy answers the value that is copied
 pub copy_answer : (a : Result Tree ValueFault) (t : Tree) (r : Result Tree ValueFault) → a ≡ Ok t → IfOk r (λ v. v ≡ t) → IfErr r (λ f. f ≡ Memory) → IsAnswer a r
@@ -118,7 +114,7 @@ fault_in t i n f h e g = not_found (elements_of t) (whole_of i) f (g ∙ ap (λ 
 
 -- the element of the entry at its place
 pub associate_at : (es : List Entry) (k : ℕ) (e : Entry) → k < length es → e ≡ get_or es k e → slice_get (map (λ p. p.1) (listed_pairs (pairs (map as_pair es)))) k ≡ Some e.associate
-associate_at es k e h read = sym (nth_of_associates es es k refl) ∙ ap (option_map (λ (f : Entry). f.associate)) (read_at es k e h read)
+associate_at es k e h read = sym (nth_of_associates es es k refl) ∙ ap (option_map (λ (f : Entry). f.associate)) (slice_get_read es (length es) k e refl h read)
 
 pub associates_count : (es : List Entry) → length (map (λ (p : Tree × Tree). p.1) (listed_pairs (pairs (map as_pair es)))) ≡ length es
 associates_count [] = refl

@@ -7,6 +7,7 @@ pub mod Itemised
 pub mod Joins
 pub mod Keys
 pub mod ByKind
+pub mod Characters
 pub mod LongDivision
 pub mod Making
 pub mod Pairing
@@ -15,6 +16,7 @@ pub mod Placing
 mod PrintedRows
 pub mod Ranges
 pub mod Removing
+pub mod RisingKeys
 pub mod Rows
 pub mod ShapeSteps
 pub mod Shaping

@@ -1,12 +1,13 @@
 -- A value from its parts.
 use Rattle.std.proofs.Common.{◌≡◌, ℕ, zero, suc, ◌+◌, ◌<◌, ◌≤◌, max, List, [], ◌∷◌, length, take, get_or, refl, sym, ap, subst, arith, add-one, Some, None}
 use Rattle.std.proofs.lemmas.Bool.Decides.{nat_tests}
+use Rattle.std.proofs.lemmas.List.{take_all}
 use Rattle.abc_num.specs.declared.limits.TheConstants.{MOST_ELEMENTS, MOST_VALUE_HEIGHT, MOST_WEIGHT}
 use Rattle.abc_value.specs.declared.faults.ValueFault.TheVariants.{TooLong}
 use Rattle.abc_value.specs.Tree.{Tree, number, text, compound, list, table, trees}
 use Rattle.abc_value.specs.Sizes.{count, height_of, weight_of, trees_height, trees_weight, sizes_fault, size_fault}
 use Rattle.abc_value.specs.Regular.{IsRegular, AllRegular, AreCharacters}
-use Rattle.abc_value.proofs.Rows.{count_trees, take_all}
+use Rattle.abc_value.proofs.Rows.{count_trees}
 use Rattle.abc_value.proofs.Adding.{AreSmall, small_sizes}
 
 height_suc : (xs : List Tree) (i : ℕ) (x : Tree) → i < length xs → x ≡ get_or xs i x → trees_height (trees (take (suc i) xs)) ≡ max (trees_height (trees (take i xs))) (height_of x + 1)
@@ -61,7 +62,7 @@ one_regular_more xs i x l e r a =
     subst P (sym (add-one i)) (regular_suc xs i x l e r a)
 
 pub regular_at_end : (xs : List Tree) (i : ℕ) → length xs ≤ i → AllRegular (trees (take i xs)) → AllRegular (trees xs)
-regular_at_end xs i l a = let P : List Tree → Type 0 = λ zs. AllRegular (trees zs) in subst P (take_all xs i l) a
+regular_at_end xs i l a = let P : List Tree → Type 0 = λ zs. AllRegular (trees zs) in subst P (take_all i xs l) a
 
 -- regular parts are at most as tall as a value may be
 pub parts_height : (xs : List Tree) → AllRegular (trees xs) → trees_height (trees xs) ≤ MOST_VALUE_HEIGHT + 1

@@ -1,16 +1,17 @@
 -- Tables with a pair more, another associate, or a pair fewer.
-use Rattle.std.proofs.Common.{◌≡◌, ◌≢◌, ℕ, zero, suc, ◌+◌, ◌<◌, ◌≤◌, max, List, [], ◌∷◌, length, get_or, refl, sym, ap, ◌∙◌, arith, if◌then◌else◌, Some, None}
+use Rattle.std.proofs.Common.{◌≡◌, ◌≢◌, ℕ, zero, suc, ◌+◌, ◌<◌, ◌≤◌, max, List, [], ◌∷◌, length, get_or, refl, sym, ap, ◌∙◌, arith, Some, None}
 use Rattle.std.specs.List.{remove, insert, slice_set}
 use Rattle.std.specs.declared.cmp.Ordering.{Ordering}
 use Rattle.std.specs.declared.cmp.Ordering.TheVariants.{Less, Equal, Greater}
-use Rattle.std.specs.Ordering.{is_eq, match_ordering, ordering_reverse}
+use Rattle.std.specs.Ordering.{match_ordering, ordering_reverse}
 use Rattle.abc_value.specs.Tree.{Tree, pairs}
 use Rattle.abc_value.specs.Order.{order}
 use Rattle.abc_value.specs.Sizes.{height_of, weight_of, pairs_height, pairs_weight}
 use Rattle.abc_value.specs.Regular.{IsRegular, AllRegularPairs, IsRising}
 use Rattle.abc_value.specs.Changes.{with_pair, without_key, associate_of, IsPlaceOf}
 use Rattle.abc_value.proofs.OrderLaws.{order-refl, order-reverse, order-same, order-trans}
-use Rattle.abc_value.proofs.Placing.{later}
+use Rattle.abc_value.proofs.Placing.{later, is_eq_at, not_eq_at, less_not_equal}
+use Rattle.abc_value.proofs.RisingKeys.{tail_rising}
 use Rattle.abc_value.proofs.Keys.{firsts}
 
 -- what stands in the table with a new pair
@@ -88,19 +89,6 @@ insert_placed k a (q ∷ ps) zero p h =
 insert_placed k a (q ∷ ps) (suc n) p h =
     answer_at (order q.0 k) Less (q ∷ with_pair k a ps) ((k, a) ∷ ps) ((k, a) ∷ q ∷ ps) _ (p.before 0 (omega arith)) (ap (λ rs. q ∷ rs) (insert_placed k a ps n (later k q.0 (firsts ps) n p) (λ l. h (omega arith))))
 
-is_eq_at : {A : Type 0} → (r : Ordering) (x y : A) → r ≡ Equal → x ≡ (if is_eq r then x else y)
-is_eq_at Less x y e = cc
-is_eq_at Equal x y e = refl
-is_eq_at Greater x y e = cc
-
-not_eq_at : {A : Type 0} → (r : Ordering) (x y : A) → r ≢ Equal → y ≡ (if is_eq r then x else y)
-not_eq_at Less x y h = refl
-not_eq_at Equal x y h = absurd (h refl)
-not_eq_at Greater x y h = refl
-
-less_not_equal : (r : Ordering) → r ≡ Less → r ≢ Equal
-less_not_equal r h k = cc
-
 pub remove_placed_key : (k : Tree) (ps : List (Tree × Tree)) (n : ℕ) → IsPlaceOf k (firsts ps) n → n < length ps → get_or (firsts ps) n k ≡ k → remove ps n ≡ without_key k ps
 remove_placed_key k [] n p h is = absurd (omega arith)
 remove_placed_key k (q ∷ ps) zero p h is = is_eq_at (order q.0 k) ps (q ∷ without_key k ps) (ap (λ x. order x k) is ∙ order-refl k)
@@ -121,10 +109,6 @@ no_associate k (q ∷ ps) h = no_associate k ps (λ i l. h (suc i) (omega arith)
 -- ---- the keys keep their order
 turned_less : (k l : Tree) → order k l ≡ Greater → order l k ≡ Less
 turned_less k l h = order-reverse l k ∙ ap ordering_reverse h
-
-rising_tail : (p : Tree × Tree) (ps : List (Tree × Tree)) → IsRising (pairs (p ∷ ps)) → IsRising (pairs ps)
-rising_tail p [] r = tt
-rising_tail p (q ∷ ps) r = r.1
 
 -- p stays in front of the rest with (k, a)
 rising_front : (k a : Tree) (p : Tree × Tree) (ps : List (Tree × Tree)) → order p.0 k ≡ Less → IsRising (pairs (p ∷ ps)) → IsRising (pairs (with_pair k a ps)) → IsRising (pairs (p ∷ with_pair k a ps))
@@ -148,7 +132,7 @@ rising_by k a p ps Greater i j e o r = (turned_less p.0 k e, o)
 pub with_pair_rising : (k a : Tree) (ps : List (Tree × Tree)) → IsRegular k → AllRegularPairs (pairs ps) → IsRising (pairs ps) → IsRising (pairs (with_pair k a ps))
 unfolding AllRegularPairs
 with_pair_rising k a [] i r o = tt
-with_pair_rising k a (p ∷ ps) i r o = rising_by k a p ps (order p.0 k) i r.0 refl o (with_pair_rising k a ps i r.2 (rising_tail p ps o))
+with_pair_rising k a (p ∷ ps) i r o = rising_by k a p ps (order p.0 k) i r.0 refl o (with_pair_rising k a ps i r.2 (tail_rising p.0 p.1 (pairs ps) o))
 
 skipped : (p q : Tree × Tree) (ps : List (Tree × Tree)) → AllRegularPairs (pairs (p ∷ q ∷ ps)) → IsRising (pairs (p ∷ q ∷ ps)) → IsRising (pairs (p ∷ ps))
 unfolding AllRegularPairs

@@ -1,8 +1,8 @@
 -- The place of an element in a list in order.
-use Rattle.std.proofs.Common.{◌≡◌, ◌≢◌, ℕ, zero, suc, ◌+◌, ◌<◌, ◌≤◌, List, [], ◌∷◌, ◌++◌, length, take, drop, get_or, refl, sym, ap, ◌∙◌, arith}
+use Rattle.std.proofs.Common.{◌≡◌, ◌≢◌, ℕ, zero, suc, ◌+◌, ◌<◌, ◌≤◌, List, [], ◌∷◌, ◌++◌, length, take, drop, get_or, refl, sym, ap, ◌∙◌, arith, if◌then◌else◌}
 use Rattle.std.specs.declared.cmp.Ordering.{Ordering}
 use Rattle.std.specs.declared.cmp.Ordering.TheVariants.{Less, Equal, Greater}
-use Rattle.std.specs.Ordering.{match_ordering}
+use Rattle.std.specs.Ordering.{match_ordering, is_eq}
 use Rattle.std.proofs.lemmas.List.{get_or_read}
 use Rattle.abc_value.specs.Tree.{Tree, trees}
 use Rattle.abc_value.specs.Order.{order}
@@ -27,6 +27,20 @@ not_greater r h k = cc
 
 pub less_not_greater : (r : Ordering) → r ≡ Less → r ≢ Greater
 less_not_greater r h k = cc
+
+-- what a test for equal answers
+pub is_eq_at : {A : Type 0} → (r : Ordering) (x y : A) → r ≡ Equal → x ≡ (if is_eq r then x else y)
+is_eq_at Less x y e = cc
+is_eq_at Equal x y e = refl
+is_eq_at Greater x y e = cc
+
+pub not_eq_at : {A : Type 0} → (r : Ordering) (x y : A) → r ≢ Equal → y ≡ (if is_eq r then x else y)
+not_eq_at Less x y h = refl
+not_eq_at Equal x y h = absurd (h refl)
+not_eq_at Greater x y h = refl
+
+pub less_not_equal : (r : Ordering) → r ≡ Less → r ≢ Equal
+less_not_equal r h k = cc
 
 -- x is at most y, and y at most z
 at_most_by : (x y z : Tree) (r s : Ordering) → IsRegular x → IsRegular y → IsRegular z → order x y ≡ r → order y z ≡ s → r ≢ Greater → s ≢ Greater → order x z ≢ Greater

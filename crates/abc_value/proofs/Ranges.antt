@@ -12,23 +12,23 @@ use Rattle.abc_num.specs.declared.limits.TheConstants.{MOST_ELEMENTS}
 use Rattle.abc_num.specs.Number.{Fraction, IsNumber, whole_number, whole_of}
 use Rattle.abc_num.proofs.Order.{is_less, whole_of-some}
 use Rattle.abc_value.specs.declared.faults.ValueFault.TheVariants.{TooLong}
-use Rattle.abc_value.specs.Tree.{Tree, number, text, list, trees}
+use Rattle.abc_value.specs.Tree.{Tree, Trees, number, text, compound, list, trees}
 use Rattle.abc_value.specs.Order.{order}
-use Rattle.abc_value.specs.Sizes.{count, height_of, weight_of, trees_height, trees_weight, sizes_fault, size_fault}
+use Rattle.abc_value.specs.Sizes.{height_of, weight_of, trees_height, trees_weight, sizes_fault, size_fault}
 use Rattle.abc_value.specs.Regular.{IsRegular, AllRegular, IsOrdered}
 use Rattle.abc_value.specs.Items.{IsAnswer, if_small, by_fault, numbers_from, characters_from, count_of}
 use Rattle.abc_value.proofs.Rows.{count_trees}
 use Rattle.abc_value.proofs.Adding.{AreSmall, small_sizes}
-use Rattle.abc_value.proofs.Making.{too_long}
+use Rattle.abc_value.proofs.Making.{compound_too_long}
 use Rattle.abc_value.proofs.Placing.{less_not_greater}
 
-pub list_too_long : (xs : List Tree) → MOST_ELEMENTS < length xs → size_fault (list (trees xs)) ≡ Some TooLong
+-- a list has the sizes of a compound of its elements
+pub list_fault : (ts : Trees) → size_fault (compound ts) ≡ size_fault (list ts)
 unfolding size_fault
-list_too_long xs h = too_long (count (trees xs)) (trees_height (trees xs)) (trees_weight (trees xs) + 5) (omega (arith, count_trees xs))
+list_fault ts = refl
 
-pub list_fault : (xs : List Tree) (h w : ℕ) → h ≡ trees_height (trees xs) → w ≡ trees_weight (trees xs) + 5 → sizes_fault (length xs) h w ≡ size_fault (list (trees xs))
-unfolding size_fault
-list_fault xs h w p q = λ i. sizes_fault (sym (count_trees xs) i) (p i) (q i)
+list_too_long : (xs : List Tree) → MOST_ELEMENTS < length xs → size_fault (list (trees xs)) ≡ Some TooLong
+list_too_long xs h = sym (list_fault (trees xs)) ∙ compound_too_long xs h
 
 pub list_invariant : (xs : List Tree) (h w : ℕ) → IsOrdered (trees xs) → AllRegular (trees xs) → h ≡ trees_height (trees xs) → w ≡ trees_weight (trees xs) + 5 → sizes_fault (length xs) h w ≡ None → (h ≡ height_of (list (trees xs))) × (w ≡ weight_of (list (trees xs))) × IsRegular (list (trees xs))
 unfolding IsRegular

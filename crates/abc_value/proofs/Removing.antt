@@ -1,11 +1,11 @@
 -- A list with one element fewer.
-use Rattle.std.proofs.Common.{◌≡◌, ◌≢◌, ℕ, zero, suc, ◌+◌, ◌-◌, ◌<◌, max, List, [], ◌∷◌, length, get_or, refl, sym, ap, ◌∙◌, subst, arith, if◌then◌else◌, inl, inr, Bool, true, false, ◌==◌}
+use Rattle.std.proofs.Common.{◌≡◌, ◌≢◌, ℕ, zero, suc, ◌+◌, ◌-◌, ◌<◌, max, List, [], ◌∷◌, length, get_or, refl, sym, ap, ◌∙◌, subst, arith, inl, inr, Bool, true, false, ◌==◌}
 use Rattle.std.proofs.lemmas.List.{get_or_read}
 use Rattle.std.specs.List.{remove, Contains}
 use Rattle.std.proofs.lemmas.Bool.{cases_lt}
 use Rattle.std.specs.declared.cmp.Ordering.{Ordering}
 use Rattle.std.specs.declared.cmp.Ordering.TheVariants.{Less, Equal, Greater}
-use Rattle.std.specs.Ordering.{is_eq, ordering_index}
+use Rattle.std.specs.Ordering.{ordering_index}
 use Rattle.std.specs.Bool.{OnTrue}
 use Rattle.abc_value.specs.Tree.{Tree, list, trees}
 use Rattle.abc_value.specs.Order.{order}
@@ -13,7 +13,7 @@ use Rattle.abc_value.specs.Sizes.{height_of, weight_of, trees_height, trees_weig
 use Rattle.abc_value.specs.Regular.{IsOrdered, IsRegular, AllRegular}
 use Rattle.abc_value.specs.Changes.{without, IsPlaceOf}
 use Rattle.abc_value.proofs.OrderLaws.{order-refl, order-same}
-use Rattle.abc_value.proofs.Placing.{at_most, rising, later}
+use Rattle.abc_value.proofs.Placing.{at_most, rising, later, is_eq_at, not_eq_at, less_not_equal}
 use Rattle.abc_value.proofs.Rows.{count_trees}
 
 -- what stands in the list without e
@@ -47,22 +47,12 @@ remove_ordered (x ∷ []) (suc (suc n)) r o = tt
 remove_ordered (x ∷ y ∷ ys) (suc zero) r o = skipped x y ys r o
 remove_ordered (x ∷ y ∷ ys) (suc (suc n)) r o = (o.0, remove_ordered (y ∷ ys) (suc n) r.1 o.1)
 
-drop_here : (r : Ordering) (xs ys : List Tree) → r ≡ Equal → xs ≡ (if is_eq r then xs else ys)
-drop_here Less xs ys e = cc
-drop_here Equal xs ys e = refl
-drop_here Greater xs ys e = cc
-
-keep_here : (r : Ordering) (xs ys : List Tree) → r ≡ Less → ys ≡ (if is_eq r then xs else ys)
-keep_here Less xs ys e = refl
-keep_here Equal xs ys e = cc
-keep_here Greater xs ys e = cc
-
 -- what goes at the place of e is what `without` leaves out
 pub remove_placed : (e : Tree) (xs : List Tree) (n : ℕ) → IsPlaceOf e xs n → n < length xs → e ≡ get_or xs n e → remove xs n ≡ without e xs
 remove_placed e [] n p h is = absurd (omega arith)
-remove_placed e (x ∷ xs) zero p h is = drop_here (order x e) xs (x ∷ without e xs) (ap (λ y. order y e) (sym is) ∙ order-refl e)
+remove_placed e (x ∷ xs) zero p h is = is_eq_at (order x e) xs (x ∷ without e xs) (ap (λ y. order y e) (sym is) ∙ order-refl e)
 remove_placed e (x ∷ xs) (suc n) p h is =
-    ap (λ ys. x ∷ ys) (remove_placed e xs n (later e x xs n p) (omega arith) is) ∙ keep_here (order x e) xs (x ∷ without e xs) (p.before 0 (omega arith))
+    ap (λ ys. x ∷ ys) (remove_placed e xs n (later e x xs n p) (omega arith) is) ∙ not_eq_at (order x e) xs (x ∷ without e xs) (less_not_equal _ (p.before 0 (omega arith)))
 
 neither : (r : Ordering) → r ≢ Less → r ≢ Greater → r ≡ Equal
 neither Less h k = absurd (h refl)

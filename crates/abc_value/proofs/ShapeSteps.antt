@@ -109,18 +109,6 @@ pub common_stop : (w : Option Form) (xs : List Tree) (all : Form) (i : ℕ) (x :
 common_stop w xs all i x inv h e found =
     sym (inv ∙ common_step (Some all) xs i x h e ∙ ap (λ o. common o (trees (drop (suc i) xs))) (sym found) ∙ common_none (trees (drop (suc i) xs)))
 
-pub unformed : (all : Form) (x : Tree) → None ≡ form_of x → None ≡ joined (Some all) (form_of x)
-unformed all x e = ap (joined (Some all)) e
-
-pub unjoined : (all f : Form) (x : Tree) → Some f ≡ form_of x → None ≡ join all f → None ≡ joined (Some all) (form_of x)
-unjoined all f x e n = n ∙ ap (joined (Some all)) e
-
-common_end : (o : Option Form) (xs : List Tree) (i : ℕ) → length xs ≤ i → common o (trees (drop i xs)) ≡ o
-common_end o [] zero h = refl
-common_end o [] (suc i) h = refl
-common_end o (x ∷ xs) zero h = absurd (omega arith)
-common_end o (x ∷ xs) (suc i) h = common_end o xs i (omega arith)
-
 -- the first element may be joined to what is known of nothing
 pub from_anything : (o : Option Form) → joined (Some anything) o ≡ o
 from_anything None = refl

@@ -127,17 +127,18 @@ common_exact vs = (
 not_train : (s : Form) (e : Ground) → ((t : Ground) → fits s t → IsTrainOf t e → ⊥) → ((t : Ground) × fits s t × IsTrainOf t e) ↔ ⊥
 not_train s e h = (λ x. h x.0 x.1 x.2, λ x. absurd x)
 
-of_number : (t e : Ground) → t ≡ type.Number → IsTrainOf t e → ⊥
+pub of_number : (t e : Ground) → t ≡ type.Number → IsTrainOf t e → ⊥
 of_number t e p (inl x) = number_text t p x.0
 of_number t e p (inr (inl x)) = number_list t e p x
 of_number t e p (inr (inr x)) = number_table t x.0 e p x.1
 
-of_fields : (t e : Ground) (gs : List Ground) → t ≡ type.Compound gs → IsTrainOf t e → ⊥
+pub of_fields : (t e : Ground) (gs : List Ground) → t ≡ type.Compound gs → IsTrainOf t e → ⊥
 of_fields t e gs p (inl x) = compound_text t gs x.0 p
 of_fields t e gs p (inr (inl x)) = compound_list t e gs x p
 of_fields t e gs p (inr (inr x)) = compound_table t x.0 e gs x.1 p
 
-of_text : (t e : Ground) → t ≡ type.Text → IsTrainOf t e → e ≡ type.Text
+-- the element of a text is a text
+pub of_text : (t e : Ground) → t ≡ type.Text → IsTrainOf t e → e ≡ type.Text
 of_text t e p (inl x) = x.1
 of_text t e p (inr (inl x)) = absurd (text_list t e p x)
 of_text t e p (inr (inr x)) = absurd (text_table t x.0 e p x.1)

@@ -2,7 +2,7 @@
 ghost use Rattle.std.specs.Prelude.{◌≡◌, IfOk, Some, map};
 ghost use Rattle.std.specs.Option.{option_map};
 ghost use Rattle.abc_value.specs.Tree.{trees, pairs};
-ghost use Rattle.abc_value.specs.Forms.{anything, forms, form_of, forms_of, common, common_key, common_associate};
+ghost use Rattle.abc_value.specs.Forms.{anything, forms, joined, form_of, forms_of, common, common_key, common_associate};
 ghost use Rattle.abc_value.specs.View.{as_pair};
 
 use crate::value::{Entry, Node};
@@ -57,6 +57,17 @@ fn shapes_of(alloc: Global, parts: &VecDeque<Value>) -> Result<Option<Vec<Shape>
     Ok(Some(shapes))
 }
 
+/// The shape of the types that are of a shape and that a value has.
+#[cycle(form)]
+fn shape_with(alloc: Global, all: &Shape, v: &Value) -> Result<Option<Shape>, OutOfMemory>
+    ensures { IfOk result (λ o. o ≡ joined (Some all.now) (form_of v.now)) }
+{
+    match Shape::of(alloc, v)? {
+        Some(shape) => all.join(alloc, &shape),
+        None => Ok(None),
+    }
+}
+
 /// The shape of the types that all these values have.
 #[cycle(form)]
 fn common_shape(alloc: Global, parts: &VecDeque<Value>) -> Result<Option<Shape>, OutOfMemory>
@@ -64,10 +75,7 @@ fn common_shape(alloc: Global, parts: &VecDeque<Value>) -> Result<Option<Shape>,
 {
     let mut all = Shape::anything();
     for i in 0..parts.len() {
-        let Some(shape) = Shape::of(alloc, &parts[i])? else {
-            return Ok(None);
-        };
-        let Some(next) = all.join(alloc, &shape)? else {
+        let Some(next) = shape_with(alloc, &all, &parts[i])? else {
             return Ok(None);
         };
         all = next;
@@ -82,10 +90,7 @@ fn key_shape(alloc: Global, entries: &[Entry]) -> Result<Option<Shape>, OutOfMem
 {
     let mut all = Shape::anything();
     for entry in entries {
-        let Some(shape) = Shape::of(alloc, &entry.key)? else {
-            return Ok(None);
-        };
-        let Some(next) = all.join(alloc, &shape)? else {
+        let Some(next) = shape_with(alloc, &all, &entry.key)? else {
             return Ok(None);
         };
         all = next;
@@ -100,10 +105,7 @@ fn associate_shape(alloc: Global, entries: &[Entry]) -> Result<Option<Shape>, Ou
 {
     let mut all = Shape::anything();
     for entry in entries {
-        let Some(shape) = Shape::of(alloc, &entry.associate)? else {
-            return Ok(None);
-        };
-        let Some(next) = all.join(alloc, &shape)? else {
+        let Some(next) = shape_with(alloc, &all, &entry.associate)? else {
             return Ok(None);
         };
         all = next;

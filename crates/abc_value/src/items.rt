@@ -6,13 +6,12 @@ ghost use Rattle.abc_value.specs.Sizes.{IsMakingOf};
 ghost use Rattle.abc_value.specs.Regular.{IsOrdered, AreCharacters};
 ghost use Rattle.abc_value.specs.Items.{IsAnswer, IsTrain, HaveRange, item_of, range_of, place_in, count_of, number_range, character_range};
 
-use crate::sizes::{check_sizes, tallest, total_weight};
+use crate::sizes::sized;
 use crate::value::Node;
 use crate::{Value, ValueFault};
 use abc_num::Num;
-use abc_num::limits::{MOST_ELEMENTS, MOST_VALUE_HEIGHT};
+use abc_num::limits::MOST_ELEMENTS;
 use std::alloc::Global;
-use std::collections::VecDeque;
 
 impl Value {
     /// The i-th element of a text, list or table, in order and counted from 1. NotWhole where `i` isn't whole; OutOfRange
@@ -122,13 +121,7 @@ fn ordered_list(items: Vec<Value>) -> Result<Value, ValueFault>
     ensures value { IfOk result (λ v. v ≡ list (trees items.items)) }
     ensures sizes { IsMakingOf (list (trees items.items)) result }
 {
-    if items.len() > MOST_ELEMENTS {
-        return Err(ValueFault::TooLong);
-    }
-    let elements = VecDeque::from_vec(items);
-    let weight = total_weight(&elements) + 5;
-    let height = tallest(&elements, MOST_VALUE_HEIGHT + 1);
-    check_sizes(elements.len(), height, weight)?;
+    let (elements, height, weight) = sized(items)?;
     Ok(Value {
         node: Node::List(elements),
         height,

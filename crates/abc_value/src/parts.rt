@@ -6,11 +6,11 @@ ghost use Rattle.abc_value.specs.Sizes.{length_of, IsMakingOf};
 ghost use Rattle.abc_value.specs.Regular.{IsRegular, AreCharacters};
 ghost use Rattle.abc_value.specs.Parts.{kind_of, number_of, codes_of, parts_of, keys_of};
 
-use crate::sizes::{check_sizes, tallest, total_weight};
+use crate::sizes::sized;
 use crate::value::{Entry, Node};
 use crate::{Kind, Value, ValueFault};
 use abc_num::Num;
-use abc_num::limits::{MOST_ELEMENTS, MOST_VALUE_HEIGHT};
+use abc_num::limits::MOST_ELEMENTS;
 use std::alloc::Global;
 use std::collections::VecDeque;
 
@@ -38,13 +38,7 @@ impl Value {
         ensures value { IfOk result (λ v. v ≡ compound (trees fields.items)) }
         ensures sizes { IsMakingOf (compound (trees fields.items)) result }
     {
-        if fields.len() > MOST_ELEMENTS {
-            return Err(ValueFault::TooLong);
-        }
-        let parts = VecDeque::from_vec(fields);
-        let weight = total_weight(&parts) + 5;
-        let height = tallest(&parts, MOST_VALUE_HEIGHT + 1);
-        check_sizes(parts.len(), height, weight)?;
+        let (parts, height, weight) = sized(fields)?;
         Ok(Value {
             node: Node::Compound(parts),
             height,
@@ -126,29 +120,23 @@ impl Value {
 fn nth(parts: &VecDeque<Value>, i: usize) -> Option<&Value>
     ensures { option_map (λ v. v.now) result ≡ slice_get parts.now.items i }
 {
-    if i < parts.len() {
-        Some(&parts[i])
-    } else {
-        None
-    }
+    parts.get(i)
 }
 
 fn nth_key(entries: &[Entry], i: usize) -> Option<&Value>
     ensures { option_map (λ v. v.now) result ≡ option_map (λ e. e.key) (slice_get entries.now i) }
 {
-    if i < entries.len() {
-        Some(&entries[i].key)
-    } else {
-        None
+    match entries.get(i) {
+        Some(entry) => Some(&entry.key),
+        None => None,
     }
 }
 
 fn nth_associate(entries: &[Entry], i: usize) -> Option<&Value>
     ensures { option_map (λ v. v.now) result ≡ option_map (λ e. e.associate) (slice_get entries.now i) }
 {
-    if i < entries.len() {
-        Some(&entries[i].associate)
-    } else {
-        None
+    match entries.get(i) {
+        Some(entry) => Some(&entry.associate),
+        None => None,
     }
 }

@@ -1,8 +1,8 @@
 //! Tests and sums of the sizes of values that are to be made.
-ghost use Rattle.std.specs.Prelude.{◌≡◌, ◌≤◌, ◌*◌, length, MatchResult, map, Some, None};
-ghost use Rattle.abc_value.specs.Tree.{trees, pairs};
+ghost use Rattle.std.specs.Prelude.{◌≡◌, ◌≤◌, ◌*◌, ◌+◌, length, MatchResult, IfOk, map, Some, None};
+ghost use Rattle.abc_value.specs.Tree.{compound, trees, pairs};
 ghost use Rattle.abc_value.specs.View.{as_pair};
-ghost use Rattle.abc_value.specs.Sizes.{sizes_fault, trees_height, pairs_height, trees_weight};
+ghost use Rattle.abc_value.specs.Sizes.{sizes_fault, trees_height, pairs_height, trees_weight, IsMakingOf};
 ghost use Rattle.abc_value.specs.Regular.{AllRegular};
 
 use crate::value::Entry;
@@ -26,6 +26,25 @@ pub(crate) fn check_sizes(length: usize, height: u32, weight: u64) -> Result<(),
         return Err(ValueFault::TooLarge);
     }
     Ok(())
+}
+
+/// These items as the parts of a compound or a list, with its height and its weight. TooLong, TooDeep and TooLarge where a
+/// size of it is past its bound.
+pub(crate) fn sized(items: Vec<Value>) -> Result<(VecDeque<Value>, u32, u64), ValueFault>
+    ensures parts { IfOk result (λ p. p.0.items ≡ items.items) }
+    ensures height { IfOk result (λ p. p.1 ≡ trees_height (trees items.items)) }
+    ensures weight { IfOk result (λ p. p.2 ≡ trees_weight (trees items.items) + 5) }
+    ensures regular { IfOk result (λ _. AllRegular (trees items.items)) }
+    ensures sizes { IsMakingOf (compound (trees items.items)) result }
+{
+    if items.len() > MOST_ELEMENTS {
+        return Err(ValueFault::TooLong);
+    }
+    let parts = VecDeque::from_vec(items);
+    let weight = total_weight(&parts) + 5;
+    let height = tallest(&parts, MOST_VALUE_HEIGHT + 1);
+    check_sizes(parts.len(), height, weight)?;
+    Ok((parts, height, weight))
 }
 
 /// The height of a value of these parts, which is at most `most`.

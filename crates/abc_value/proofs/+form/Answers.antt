@@ -8,7 +8,7 @@ use Rattle.abc_value.specs.Forms.{anything, a_list, form_of, forms_of, common, c
 use Rattle.abc_value.specs.declared.value.Entry.{Entry}
 use Rattle.abc_value.specs.View.{node_tree, as_pair}
 use Rattle.abc_value.proofs.Comparing.{part_below, entry_below}
-use Rattle.abc_value.proofs.ShapeSteps.{forms_turn, forms_stop, forms_done, common_stop, unformed, unjoined, key_stop, associate_stop, list_form}
+use Rattle.abc_value.proofs.ShapeSteps.{forms_turn, forms_stop, forms_done, common_stop, key_stop, associate_stop, list_form}
 use Rattle.abc_value.proofs.+form.Goals as goal
 
 pub forming::shapes_of-of-requires : goal.forming::shapes_of-of-requires
@@ -16,18 +16,18 @@ forming::shapes_of-of-requires t c =
     let below = part_below c.args.parts.now.items c.loop-i.i c.index.result.now (omega arith) c.index.ensures in
     (omega arith, tt)
 
-pub forming::common_shape-of-requires : goal.forming::common_shape-of-requires
-forming::common_shape-of-requires t c =
+pub forming::common_shape-shape_with-requires : goal.forming::common_shape-shape_with-requires
+forming::common_shape-shape_with-requires t c =
     let below = part_below c.args.parts.now.items c.loop-i.i c.index.result.now (omega arith) c.index.ensures in
     (omega arith, tt)
 
-pub forming::key_shape-of-requires : goal.forming::key_shape-of-requires
-forming::key_shape-of-requires t c =
+pub forming::key_shape-shape_with-requires : goal.forming::key_shape-shape_with-requires
+forming::key_shape-shape_with-requires t c =
     let below = entry_below c.args.entries.now c.loop-entry.entry-index c.entry-item.result (omega arith) in
     (omega (arith, below.0, ap (λ (e : Entry). height_of e.key) c.entry-item.is), tt)
 
-pub forming::associate_shape-of-requires : goal.forming::associate_shape-of-requires
-forming::associate_shape-of-requires t c =
+pub forming::associate_shape-shape_with-requires : goal.forming::associate_shape-shape_with-requires
+forming::associate_shape-shape_with-requires t c =
     let below = entry_below c.args.entries.now c.loop-entry.entry-index c.entry-item.result (omega arith) in
     (omega (arith, below.1, ap (λ (e : Entry). height_of e.associate) c.entry-item.is), tt)
 
@@ -47,32 +47,17 @@ forming::shapes_of-returns t c = forms_done (forms_of (trees c.args.parts.now.it
 pub forming::common_shape-returns-in_default : goal.forming::common_shape-returns-in_default
 forming::common_shape-returns-in_default t c =
     common_stop (common (Some anything) (trees c.args.parts.now.items)) c.args.parts.now.items c.loop-i.all c.loop-i.i c.index.result.now c.loop-i.invariant (omega arith) c.index.ensures
-    (unformed c.loop-i.all c.index.result.now (sym c.in_default.is ∙ c.in_ok-shape.ensures))
-
-pub forming::common_shape-returns-in_default-2 : goal.forming::common_shape-returns-in_default-2
-forming::common_shape-returns-in_default-2 t c =
-    common_stop (common (Some anything) (trees c.args.parts.now.items)) c.args.parts.now.items c.loop-i.all c.loop-i.i c.index.result.now c.loop-i.invariant (omega arith) c.index.ensures
-    (unjoined c.loop-i.all c.in-Some.shape c.index.result.now (sym c.in-Some.is ∙ c.in_ok-shape.ensures) (sym c.in_default-2.is ∙ c.in_ok-next.ensures))
+    (sym c.in_default.is ∙ c.in_ok-next.ensures)
 
 pub forming::key_shape-returns-in_default : goal.forming::key_shape-returns-in_default
 forming::key_shape-returns-in_default t c =
     key_stop (common_key (Some anything) (pairs (map as_pair c.args.entries.now))) c.args.entries.now c.loop-entry.all c.loop-entry.entry-index c.entry-item.result c.loop-entry.invariant (omega arith) c.entry-item.is
-    (unformed c.loop-entry.all c.entry-item.result.key (sym c.in_default.is ∙ c.in_ok-shape.ensures))
-
-pub forming::key_shape-returns-in_default-2 : goal.forming::key_shape-returns-in_default-2
-forming::key_shape-returns-in_default-2 t c =
-    key_stop (common_key (Some anything) (pairs (map as_pair c.args.entries.now))) c.args.entries.now c.loop-entry.all c.loop-entry.entry-index c.entry-item.result c.loop-entry.invariant (omega arith) c.entry-item.is
-    (unjoined c.loop-entry.all c.in-Some.shape c.entry-item.result.key (sym c.in-Some.is ∙ c.in_ok-shape.ensures) (sym c.in_default-2.is ∙ c.in_ok-next.ensures))
+    (sym c.in_default.is ∙ c.in_ok-next.ensures)
 
 pub forming::associate_shape-returns-in_default : goal.forming::associate_shape-returns-in_default
 forming::associate_shape-returns-in_default t c =
     associate_stop (common_associate (Some anything) (pairs (map as_pair c.args.entries.now))) c.args.entries.now c.loop-entry.all c.loop-entry.entry-index c.entry-item.result c.loop-entry.invariant (omega arith) c.entry-item.is
-    (unformed c.loop-entry.all c.entry-item.result.associate (sym c.in_default.is ∙ c.in_ok-shape.ensures))
-
-pub forming::associate_shape-returns-in_default-2 : goal.forming::associate_shape-returns-in_default-2
-forming::associate_shape-returns-in_default-2 t c =
-    associate_stop (common_associate (Some anything) (pairs (map as_pair c.args.entries.now))) c.args.entries.now c.loop-entry.all c.loop-entry.entry-index c.entry-item.result c.loop-entry.invariant (omega arith) c.entry-item.is
-    (unjoined c.loop-entry.all c.in-Some.shape c.entry-item.result.associate (sym c.in-Some.is ∙ c.in_ok-shape.ensures) (sym c.in_default-2.is ∙ c.in_ok-next.ensures))
+    (sym c.in_default.is ∙ c.in_ok-next.ensures)
 
 pub shape::Shape::of-returns-in_ok-list-in-Some-2 : goal.shape::Shape::of-returns-in_ok-list-in-Some-2
 shape::Shape::of-returns-in_ok-list-in-Some-2 t c =

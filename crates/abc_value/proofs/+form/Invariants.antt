@@ -7,19 +7,22 @@ use Rattle.abc_value.proofs.ShapeSteps.{in_front}
 use Rattle.abc_value.proofs.+form.Given as goal
 
 abbrev pub decreases-shape::Shape::of : goal.decreases-shape::Shape::of
-decreases-shape::Shape::of l = 2 * height_of l.v.now + 1
+decreases-shape::Shape::of l = 3 * height_of l.v.now + 1
+
+abbrev pub decreases-forming::shape_with : goal.decreases-forming::shape_with
+decreases-forming::shape_with l = 3 * height_of l.v.now + 2
 
 abbrev pub decreases-forming::shapes_of : goal.decreases-forming::shapes_of
-decreases-forming::shapes_of l = 2 * trees_height (trees l.parts.now.items)
+decreases-forming::shapes_of l = 3 * trees_height (trees l.parts.now.items)
 
 abbrev pub decreases-forming::common_shape : goal.decreases-forming::common_shape
-decreases-forming::common_shape l = 2 * trees_height (trees l.parts.now.items)
+decreases-forming::common_shape l = 3 * trees_height (trees l.parts.now.items)
 
 abbrev pub decreases-forming::key_shape : goal.decreases-forming::key_shape
-decreases-forming::key_shape l = 2 * pairs_height (pairs (map as_pair l.entries.now))
+decreases-forming::key_shape l = 3 * pairs_height (pairs (map as_pair l.entries.now))
 
 abbrev pub decreases-forming::associate_shape : goal.decreases-forming::associate_shape
-decreases-forming::associate_shape l = 2 * pairs_height (pairs (map as_pair l.entries.now))
+decreases-forming::associate_shape l = 3 * pairs_height (pairs (map as_pair l.entries.now))
 
 abbrev pub invariant-forming::shapes_of-loop-i : goal.invariant-forming::shapes_of-loop-i
 invariant-forming::shapes_of-loop-i l = forms_of (trees l.parts.items) ≡ in_front l.shapes.items (forms_of (trees (drop l.i l.parts.items)))

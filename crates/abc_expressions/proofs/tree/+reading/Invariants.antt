@@ -26,16 +26,16 @@ decreases-operand_at l = 8 * l.left + 5
 abbrev pub decreases-advance : goal.decreases-advance
 decreases-advance l = 8 * l.state.now.left + 6
 
-abbrev pub decreases-tree_in_front : goal.decreases-tree_in_front
-decreases-tree_in_front l = 8 * l.left + 7
+abbrev pub decreases-read_tree : goal.decreases-read_tree
+decreases-read_tree l = 8 * l.left + 7
 
 abbrev pub invariant-pieces-loop-part : goal.invariant-pieces-loop-part
 invariant-pieces-loop-part l = (c : ℕ) → l.left ≤ c
     → after_pieces l.pieces (pieces_of (converter l.own c) l.left (drop l.part-index l.parts)) ≡ pieces_of (converter l.own c) l.left l.parts
 
-abbrev pub invariant-tree_in_front-loop-token : goal.invariant-tree_in_front-loop-token
-invariant-tree_in_front-loop-token l = (l.state.most ≡ l.left) × (l.state.left + (opens l.state.stack + held l.turn) ≤ l.state.most) × All IsSpelled l.ahead
+abbrev pub invariant-read_tree-loop-token : goal.invariant-read_tree-loop-token
+invariant-read_tree-loop-token l = (l.state.most ≡ l.left) × (l.state.left + (opens l.state.stack + held l.turn) ≤ l.state.most) × All IsSpelled l.ahead
     × ((c : ℕ) → l.left ≤ c → run (reader l.own c) l.own l.ahead l.state.left l.state.stack l.turn ≡ tree_at l.fn.least l.fn.whole (reader l.own c) l.own l.left l.tokens)
 
-abbrev pub decreases-tree_in_front-loop-token : goal.decreases-tree_in_front-loop-token
-decreases-tree_in_front-loop-token l = length l.ahead
+abbrev pub decreases-read_tree-loop-token : goal.decreases-read_tree-loop-token
+decreases-read_tree-loop-token l = length l.ahead

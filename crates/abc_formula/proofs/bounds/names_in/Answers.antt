@@ -1,8 +1,8 @@
 use Rattle.std.proofs.Common.{◌∙◌, sym, ap, arith, length, Ok, Err, All, subst}
+use Rattle.std.proofs.lemmas.List.Elements.{All-tail}
+use Rattle.std.proofs.lemmas.List.{nil_from_length}
 use Rattle.abc_expressions.specs.Lexemes.{IsSpelled}
-use Rattle.abc_expressions.proofs.TokenParts.{all_tail}
 use Rattle.std.proofs.lemmas.Result.{err_from_is_err_and}
-use Rattle.abc_expressions.proofs.TreeSteps.{none_left}
 use Rattle.abc_formula.proofs.NameTurns.{wanted_on, behind_on, wanted_refused, behind_refused, ended, no_tokens, steps_of_sign, named_rest}
 use Rattle.abc_formula.proofs.bounds.names_in.Goals as goal
 
@@ -25,7 +25,7 @@ pub loop-token-preserved-in_ok-wants : goal.loop-token-preserved-in_ok-wants
 loop-token-preserved-in_ok-wants c =
     let l = ap length c.in-Some.ensures.cases.0 in (
       omega (arith, l, c.loop-token.invariant.0),
-      all_tail IsSpelled _ _ (subst (All IsSpelled) c.in-Some.ensures.cases.0 c.loop-token.invariant.1),
+      All-tail IsSpelled _ _ (subst (All IsSpelled) c.in-Some.ensures.cases.0 c.loop-token.invariant.1),
       omega (arith, c.in_ok-wants.ensures.counts, c.loop-token.invariant.2),
       wanted_on _ _ _ _ _ _ _ _ c.loop-token.invariant.3 c.in-Some.ensures.cases.0 c.if-wants.true _ _ _ c.in_ok-wants.ensures.steps,
     )
@@ -34,16 +34,16 @@ pub loop-token-preserved : goal.loop-token-preserved
 loop-token-preserved c =
     let l = ap length c.in-Some.ensures.cases.0 in (
       omega (arith, l, c.loop-token.invariant.0),
-      all_tail IsSpelled _ _ (subst (All IsSpelled) c.in-Some.ensures.cases.0 c.loop-token.invariant.1),
+      All-tail IsSpelled _ _ (subst (All IsSpelled) c.in-Some.ensures.cases.0 c.loop-token.invariant.1),
       omega (arith, c.in_ok-wants-2.ensures.counts, c.loop-token.invariant.2),
       behind_on _ _ _ _ _ _ _ _ c.loop-token.invariant.3 c.in-Some.ensures.cases.0 c.if-wants.false (sym c.is_keyword.ensures ∙ c.if-is_keyword.false) c.behind.new.self.left c.behind.new.self.groups c.in_ok-wants-2.wants
           (steps_of_sign _ _ c.sign_of.ensures c.loop-token.naming.left c.loop-token.naming.groups (Ok c.in_ok-wants-2.wants) c.behind.new.self.left c.behind.new.self.groups c.in_ok-wants-2.ensures.steps),
     )
 
 pub returns-clause-finds : goal.returns-clause-finds
-returns-clause-finds c = no_tokens _ _ _ _ _ _ c.loop-token.invariant.3 (none_left _ c.in_default.ensures.cases)
+returns-clause-finds c = no_tokens _ _ _ _ _ _ c.loop-token.invariant.3 (nil_from_length _ c.in_default.ensures.cases)
 
 pub returns-then-is_keyword-clause-rest : goal.returns-then-is_keyword-clause-rest
 returns-then-is_keyword-clause-rest c =
     let l = ap length c.in-Some.ensures.cases.0 in
-    named_rest _ _ _ c.end.ensures.rest (omega (arith, l, c.loop-token.invariant.0)) (all_tail IsSpelled _ _ (subst (All IsSpelled) c.in-Some.ensures.cases.0 c.loop-token.invariant.1))
+    named_rest _ _ _ c.end.ensures.rest (omega (arith, l, c.loop-token.invariant.0)) (All-tail IsSpelled _ _ (subst (All IsSpelled) c.in-Some.ensures.cases.0 c.loop-token.invariant.1))

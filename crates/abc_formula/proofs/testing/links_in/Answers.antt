@@ -1,9 +1,9 @@
 use Rattle.std.proofs.Common.{◌∙◌, sym, ap, arith, subst, All, length}
+use Rattle.std.proofs.lemmas.List.Elements.{All-tail}
+use Rattle.std.proofs.lemmas.List.{nil_from_length}
 use Rattle.std.proofs.lemmas.Result.{err_from_is_err_and}
 use Rattle.abc_expressions.specs.Lexemes.{IsSpelled}
 use Rattle.abc_expressions.specs.Machine.{reader}
-use Rattle.abc_expressions.proofs.TokenParts.{all_tail}
-use Rattle.abc_expressions.proofs.TreeSteps.{none_left}
 use Rattle.abc_formula.proofs.TestTurns.{LinksAre, links_start, links_on, links_refused, links_end, links_last}
 use Rattle.abc_formula.proofs.testing.links_in.Goals as goal
 
@@ -20,7 +20,7 @@ returns-in_default-relation_of-clause-finds c n m low few =
     links_end (reader c.args.own.now n) c.args.own.now c.args.left m c.args.tokens.now _ _ _ _ (c.loop-token.invariant.2 n m low few) c.in-Some.ensures.cases.0 (sym c.relation_of.ensures ∙ c.in_default-relation_of.is)
 
 pub single-requires-clause-spelled : goal.single-requires-clause-spelled
-single-requires-clause-spelled c = all_tail IsSpelled _ _ (subst (All IsSpelled) c.in-Some.ensures.cases.0 c.loop-token.invariant.1)
+single-requires-clause-spelled c = All-tail IsSpelled _ _ (subst (All IsSpelled) c.in-Some.ensures.cases.0 c.loop-token.invariant.1)
 
 pub returns-in_err-front-clause-finds : goal.returns-in_err-front-clause-finds
 returns-in_err-front-clause-finds c n m low few =
@@ -39,4 +39,4 @@ loop-token-preserved c =
 
 pub returns-clause-finds : goal.returns-clause-finds
 returns-clause-finds c n m low few =
-    links_last (reader c.args.own.now n) c.args.own.now c.args.left m c.args.tokens.now _ _ (c.loop-token.invariant.2 n m low few) (none_left _ c.in_default.ensures.cases)
+    links_last (reader c.args.own.now n) c.args.own.now c.args.left m c.args.tokens.now _ _ (c.loop-token.invariant.2 n m low few) (nil_from_length _ c.in_default.ensures.cases)

@@ -1,5 +1,6 @@
 use Rattle.std.proofs.Common.{◌<◌, ◌*◌, ◌^◌, sym, ap, ◌∙◌, arith}
-use Rattle.abc_num.proofs.Powers.{power-more, power-small, power-le}
+use Rattle.std.proofs.lemmas.Grind.{pow_more}
+use Rattle.abc_num.proofs.Powers.{power-small, power-le}
 use Rattle.abc_num.proofs.power.power.Goals as goal
 
 pub returns-else-exponent-eq0-clause-some : goal.returns-else-exponent-eq0-clause-some
@@ -12,4 +13,4 @@ returns-in_err-product-clause-none c =
     rw c.from_residual.ensures (omega (arith, past, least, ap (λ z. z * c.args.base) c.loop.invariant))
 
 pub loop-preserved : goal.loop-preserved
-loop-preserved c = c.in_ok-product.ensures.1 ∙ ap (λ z. z * c.args.base) c.loop.invariant ∙ sym (power-more c.args.base c.loop.counter)
+loop-preserved c = c.in_ok-product.ensures.1 ∙ ap (λ z. z * c.args.base) c.loop.invariant ∙ sym (pow_more c.args.base c.loop.counter)

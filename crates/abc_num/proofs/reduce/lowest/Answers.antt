@@ -1,6 +1,6 @@
 use Rattle.std.proofs.Math.Nat.{div-mul_cancel}
-use Rattle.abc_num.proofs.Divisors.{coprime_one}
-use Rattle.abc_num.proofs.LowestTerms.{divisor_pos, parts_coprime, factor_pos, same_parts}
+use Rattle.abc_num.proofs.Divisors.{coprime_one, factor_positive}
+use Rattle.abc_num.proofs.LowestTerms.{divisor_pos, parts_coprime, same_parts}
 use Rattle.abc_num.proofs.Ratios.{IsRatio-scaled}
 use Rattle.abc_num.proofs.reduce.lowest.Goals as goal
 
@@ -17,11 +17,11 @@ pub settle-requires-2-clause-lowest : goal.settle-requires-2-clause-lowest
 settle-requires-2-clause-lowest c = parts_coprime c.args.a c.args.b _ c.requires c.gcd-divisor.ensures
 
 pub settle-requires-2-clause-positive : goal.settle-requires-2-clause-positive
-settle-requires-2-clause-positive c = factor_pos _ c.gcd-divisor.result c.args.b (div-mul_cancel _ c.gcd-divisor.ensures.1) c.requires
+settle-requires-2-clause-positive c = factor_positive _ c.gcd-divisor.result c.args.b (div-mul_cancel _ c.gcd-divisor.ensures.1) c.requires
 
 pub returns : goal.returns
 returns c =
     let g = c.gcd-divisor.result in
     let i = c.gcd-divisor.ensures in
-    let bottom = factor_pos _ g c.args.b (div-mul_cancel g i.1) c.requires in
+    let bottom = factor_positive _ g c.args.b (div-mul_cancel g i.1) c.requires in
     IsRatio-scaled c.args.negative _ _ c.args.a c.args.b c.settle-2.result bottom c.requires (same_parts c.args.a c.args.b g i) c.settle-2.ensures

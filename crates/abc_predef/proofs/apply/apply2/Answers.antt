@@ -2,7 +2,7 @@ use Rattle.std.proofs.Common.{ap, subst}
 use Rattle.abc_predef.specs.declared.table.Letter.TheVariants as letter
 use Rattle.abc_predef.specs.Places.{IsLike}
 use Rattle.abc_predef.specs.Signatures.{operands}
-use Rattle.abc_predef.proofs.Signatures.{some_is}
+use Rattle.std.proofs.lemmas.Option.{same_Some}
 use Rattle.abc_predef.proofs.AllOperations.{none_of_two}
 use Rattle.abc_predef.proofs.Operanded.{first_number, second_number, first_text, second_text, first_train, second_train, element_like}
 use Rattle.abc_predef.proofs.apply.apply2.Goals as goal
@@ -93,14 +93,14 @@ extreme_element-requires-clause-train c = second_train c.args.op letter.Element 
 
 pub extreme_element-requires-clause-like : goal.extreme_element-requires-clause-like
 extreme_element-requires-clause-like c x e =
-    subst (λ v. IsLike v.now c.args.y.now) (some_is c.args.x x e) (element_like c.args.op c.args.x.now c.args.y.now (ap operands c.in-LeastAbove.is) c.requires)
+    subst (λ v. IsLike v.now c.args.y.now) (same_Some c.args.x x e) (element_like c.args.op c.args.x.now c.args.y.now (ap operands c.in-LeastAbove.is) c.requires)
 
 pub extreme_element-requires-in-GreatestBelow-clause-train : goal.extreme_element-requires-in-GreatestBelow-clause-train
 extreme_element-requires-in-GreatestBelow-clause-train c = second_train c.args.op letter.Element c.args.x.now c.args.y.now (ap operands c.in-GreatestBelow.is) c.requires
 
 pub extreme_element-requires-in-GreatestBelow-clause-like : goal.extreme_element-requires-in-GreatestBelow-clause-like
 extreme_element-requires-in-GreatestBelow-clause-like c x e =
-    subst (λ v. IsLike v.now c.args.y.now) (some_is c.args.x x e) (element_like c.args.op c.args.x.now c.args.y.now (ap operands c.in-GreatestBelow.is) c.requires)
+    subst (λ v. IsLike v.now c.args.y.now) (same_Some c.args.x x e) (element_like c.args.op c.args.x.now c.args.y.now (ap operands c.in-GreatestBelow.is) c.requires)
 
 pub number-requires-in-Item : goal.number-requires-in-Item
 number-requires-in-Item c = second_number c.args.op letter.Train c.args.x.now c.args.y.now (ap operands c.in-Item.is) c.requires

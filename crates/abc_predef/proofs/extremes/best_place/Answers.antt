@@ -3,7 +3,7 @@ use Rattle.std.specs.List.{filter}
 use Rattle.std.specs.Option.{option_map}
 use Rattle.abc_value.specs.Tree.{Tree}
 use Rattle.abc_value.specs.Items.{elements_of}
-use Rattle.abc_value.proofs.Rows.{take_all}
+use Rattle.std.proofs.lemmas.List.{take_all}
 use Rattle.abc_predef.specs.Places.{IsPlaceOfBest, is_wanted}
 use Rattle.abc_value.proofs.Itemised.{elements_count}
 use Rattle.abc_predef.proofs.Bests.{wanted_more}
@@ -23,4 +23,4 @@ pub returns : goal.returns
 returns c =
     let f = is_wanted c.args.end (option_map (λ e. e.now) c.args.e) in
     let P : List Tree → Type 0 = λ xs. IsPlaceOfBest c.args.end c.args.t.now (filter f xs) c.loop-i.best in
-    subst P (take_all (elements_of c.args.t.now) c.loop-i.i (omega (arith, c.loop-i-test.false, c.len-i-end.ensures.length, elements_count c.args.t.now c.requires.train))) c.loop-i.invariant
+    subst P (take_all c.loop-i.i (elements_of c.args.t.now) (omega (arith, c.loop-i-test.false, c.len-i-end.ensures.length, elements_count c.args.t.now c.requires.train))) c.loop-i.invariant

@@ -1,7 +1,7 @@
 use Rattle.std.proofs.Common.{◌++◌, ◌∷◌, [], take, slice_get, arith, sym, ap, ◌∙◌, vec_len}
 use Rattle.std.proofs.lemmas.Option.{slice_get_within}
 use Rattle.abc_value.specs.Parts.{codes_of}
-use Rattle.abc_value.proofs.Rows.{take_all}
+use Rattle.std.proofs.lemmas.List.{take_all}
 use Rattle.abc_predef.proofs.Codes.{regular_codes, take_next, nothing_left}
 use Rattle.abc_predef.proofs.texts.codes.Goals as goal
 
@@ -39,4 +39,4 @@ pub returns-clause-ok : goal.returns-clause-ok
 returns-clause-ok c =
     let n = vec_len c.loop-code.codes in
     let none = ap (slice_get (codes_of c.args.t.now)) (sym c.len-in-loop-code.ensures) ∙ sym c.byte.ensures ∙ c.in_default.is in
-    c.loop-code.invariant ∙ take_all (codes_of c.args.t.now) n (nothing_left (codes_of c.args.t.now) n none)
+    c.loop-code.invariant ∙ take_all n (codes_of c.args.t.now) (nothing_left (codes_of c.args.t.now) n none)

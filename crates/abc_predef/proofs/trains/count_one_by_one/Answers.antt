@@ -3,7 +3,7 @@ use Rattle.std.specs.List.{count_by}
 use Rattle.std.specs.Ordering.{is_eq, ordering_index}
 use Rattle.abc_value.specs.Order.{order}
 use Rattle.abc_value.specs.Items.{elements_of}
-use Rattle.abc_value.proofs.Rows.{take_all}
+use Rattle.std.proofs.lemmas.List.{take_all}
 use Rattle.abc_predef.specs.Places.{element_at}
 use Rattle.abc_value.proofs.Itemised.{elements_count}
 use Rattle.abc_predef.proofs.Halves.{count_more, index_of_equal, byte_is}
@@ -23,4 +23,4 @@ loop-i-preserved c =
 pub returns : goal.returns
 returns c =
     c.loop-i.invariant.0 ∙ ap (count_by (λ x. is_eq (order x c.args.e.now)))
-    (take_all (elements_of c.args.t.now) c.loop-i.i (omega (arith, c.loop-i-test.false, c.len-i-end.ensures.length, elements_count c.args.t.now c.requires.train)))
+    (take_all c.loop-i.i (elements_of c.args.t.now) (omega (arith, c.loop-i-test.false, c.len-i-end.ensures.length, elements_count c.args.t.now c.requires.train)))

@@ -2,12 +2,13 @@ use Rattle.std.proofs.Common.{◌≤◌, length, ap, ◌∙◌, ◌++◌, ◌∷
 use Rattle.std.proofs.lemmas.Result.{err_from_is_err_and}
 use Rattle.abc_print.specs.declared.frames.Lexeme.TheVariants as lexeme
 use Rattle.abc_print.specs.declared.lexing.State.{State}
-use Rattle.abc_print.proofs.TokenFacts.{token_at, line_characters}
-use Rattle.abc_print.proofs.Lining.{at_next, never_next, at_end, at_number, at_sign, at_divisor, at_last}
+use Rattle.abc_tokens.proofs.Placed.{placed_line}
+use Rattle.abc_print.proofs.TokenFacts.{line_characters}
+use Rattle.abc_print.proofs.Lining.{at_next, never_next, at_end, at_number, at_unfinished, at_last}
 use Rattle.abc_print.proofs.lexing.lexemes.Goals as goal
 
 pub read_token-requires-clause-token : goal.read_token-requires-clause-token
-read_token-requires-clause-token c = token_at c.args.line.now c.args.tokens.now c.loop-token.token-index _ c.requires.tokens c.loop-token-test.true
+read_token-requires-clause-token c = placed_line c.args.line.now c.args.tokens.now c.requires.tokens c.loop-token.token-index _ c.loop-token-test.true
 
 pub read_token-requires-clause-characters : goal.read_token-requires-clause-characters
 read_token-requires-clause-characters c = line_characters c.args.line.now c.args.tokens.now c.requires.tokens
@@ -34,14 +35,7 @@ returns-in_ok-push_back-in-Numbered-clause-ok c =
     at_number c.args.line.now c.args.tokens.now c.loop-token.all.items c.loop-token.token-index past c.in-Numbered.x c.push_back.new.self.items
     (c.in_ok-push_back-in-Numbered.ensures.items ∙ ap (λ t. c.loop-token.all.items ++ lexeme.Value t ∷ []) c.number.ensures) (subst P c.in-Numbered.is c.loop-token.invariant)
 
-pub returns-in-Signed-clause-bad : goal.returns-in-Signed-clause-bad
-returns-in-Signed-clause-bad c = λ _.
+pub returns-in_default-clause-bad : goal.returns-in_default-clause-bad
+returns-in_default-clause-bad c = λ _.
     let past : length c.args.tokens.now ≤ c.loop-token.token-index = omega arith in
-    let P : State → Type 0 = λ s. at_last c.args.line.now c.args.tokens.now c.loop-token.all.items c.loop-token.token-index past s in
-    at_sign c.args.line.now c.args.tokens.now c.loop-token.all.items c.loop-token.token-index past c.in-Signed.field-0 (subst P c.in-Signed.is c.loop-token.invariant)
-
-pub returns-in-Divided-clause-bad : goal.returns-in-Divided-clause-bad
-returns-in-Divided-clause-bad c = λ _.
-    let past : length c.args.tokens.now ≤ c.loop-token.token-index = omega arith in
-    let P : State → Type 0 = λ s. at_last c.args.line.now c.args.tokens.now c.loop-token.all.items c.loop-token.token-index past s in
-    at_divisor c.args.line.now c.args.tokens.now c.loop-token.all.items c.loop-token.token-index past c.in-Divided.field-0 (subst P c.in-Divided.is c.loop-token.invariant)
+    at_unfinished c.args.line.now c.args.tokens.now c.loop-token.all.items c.loop-token.token-index past c.loop-token.state c.loop-token.invariant (λ e. c.in_default.not-Start e) (λ x e. c.in_default.not-Numbered x e)

@@ -1,6 +1,7 @@
+use Rattle.std.proofs.Common.{◌∙◌}
 use Rattle.std.proofs.lemmas.Result.{err_from_is_err_and}
 use Rattle.abc_print.specs.Machine.{value_of, finished}
-use Rattle.abc_print.proofs.Running.{goes_on, refused, ended, none_left, gives_found}
+use Rattle.abc_print.proofs.Running.{goes_on, refused, ended, none_left, gives_found, unfinished}
 use Rattle.abc_print.proofs.reading.value.Goals as goal
 
 pub returns-in_err-turn : goal.returns-in_err-turn
@@ -18,20 +19,8 @@ returns-in-Behind c =
     let end = ended c.loop-lexeme.ahead.items c.loop-lexeme.stack c.loop-lexeme.turn (value_of c.args.lexemes.items) c.loop-lexeme.invariant nothing in
     gives_found c.finish.result (finished c.loop-lexeme.stack c.in-Behind.last) (value_of c.args.lexemes.items) c.finish.ensures (rw c.in-Behind.is at end)
 
-pub returns-in-Part : goal.returns-in-Part
-returns-in-Part c =
-    let nothing = none_left c.pop_front.result c.loop-lexeme.ahead.items c.pop_front.new.self.items c.pop_front.ensures.items c.pop_front.ensures.rest (λ l h. c.in_default.not-Some l h) in
-    let end = ended c.loop-lexeme.ahead.items c.loop-lexeme.stack c.loop-lexeme.turn (value_of c.args.lexemes.items) c.loop-lexeme.invariant nothing in
-    rw c.in-Part.is at end
-
-pub returns-in-Bracket : goal.returns-in-Bracket
-returns-in-Bracket c =
-    let nothing = none_left c.pop_front.result c.loop-lexeme.ahead.items c.pop_front.new.self.items c.pop_front.ensures.items c.pop_front.ensures.rest (λ l h. c.in_default.not-Some l h) in
-    let end = ended c.loop-lexeme.ahead.items c.loop-lexeme.stack c.loop-lexeme.turn (value_of c.args.lexemes.items) c.loop-lexeme.invariant nothing in
-    rw c.in-Bracket.is at end
-
 pub returns : goal.returns
 returns c =
     let nothing = none_left c.pop_front.result c.loop-lexeme.ahead.items c.pop_front.new.self.items c.pop_front.ensures.items c.pop_front.ensures.rest (λ l h. c.in_default.not-Some l h) in
     let end = ended c.loop-lexeme.ahead.items c.loop-lexeme.stack c.loop-lexeme.turn (value_of c.args.lexemes.items) c.loop-lexeme.invariant nothing in
-    rw c.in-Colon.is at end
+    end ∙ unfinished c.loop-lexeme.stack c.loop-lexeme.turn (λ t h. c.in_default-turn.not-Behind t h)

@@ -1,49 +1,77 @@
 use Rattle.std.proofs.Common.{◌≡◌, ◌∙◌, ◌++◌, List, ℕ, length, ap, subst, arith}
 use Rattle.std.specs.Prelude.{Err}
+use Rattle.std.specs.List.{concat}
 use Rattle.abc_journal.specs.declared.layout.Bounds.{Bounds}
-use Rattle.abc_outside.specs.Session.{joined}
 use Rattle.abc_outside.specs.Session.{IsBetween, IsBroken, IsCutShort}
-use Rattle.abc_session.specs.Session.{after, replies}
+use Rattle.abc_outside.specs.Stop.{Leaves}
+use Rattle.abc_outside.proofs.Leaves.{run_after}
+use Rattle.abc_journal.specs.Journal.{BeginsQuiet}
+use Rattle.abc_session.specs.Session.{Work, after, replies}
 use Rattle.abc_session.specs.Asking.{Asked}
-use Rattle.abc_session.specs.Serving.{work_of, works, Holds, OpensTo}
+use Rattle.abc_session.specs.Serving.{work_of, works, Holds, OpensTo, IsSessionPoint}
 use Rattle.abc_session.specs.Settled.{AsksSettled, IsWaiting}
-use Rattle.abc_session.specs.Run.{items_in}
+use Rattle.abc_session.specs.Run.{IsStart, items_in}
 use Rattle.abc_session.proofs.Broken.{idle_between, idle_broken}
 use Rattle.abc_session.specs.declared.session.SessionStop.TheVariants as session
 use Rattle.abc_session.specs.declared.status.TheConstants.{INPUT_FAULT, INPUT_TOO_LONG}
 use Rattle.abc_session.proofs.Stops.{either_stop}
-use Rattle.abc_session.proofs.Runs.{starts, one_start, opening_points, session_points, same_run, opening_now}
+use Rattle.abc_session.proofs.Runs.{starts, one_start, opening_points, same_run, opening_now}
+use Rattle.abc_session.proofs.running.run_store.Given.{Over}
+use Rattle.abc_session.proofs.running.run_store.Goals.{After-open, After-serve_all}
 use Rattle.abc_session.proofs.running.run_store.Goals as goal
 
-pub returns-in-Err-StoreFault-clause-stops : goal.returns-in-Err-StoreFault-clause-stops
-returns-in-Err-StoreFault-clause-stops g c told told_said told_input quiet work start =
+-- while the store is opened every stop leaves the work of the start, and nothing is said
+opening_stops : (g : Over) (c : After-open g) → g.H.Host.tells_image → BeginsQuiet g.H.Host.clock g.H.Host.stopped c.args.host.now (g.H.Host.now c.args.host.now).image → (work : Work) → IsStart (g.H.Host.now c.args.host.now).image work
+    → Leaves g.H.Host.clock g.H.Host.stopped c.args.host.now c.open.new.host (IsSessionPoint c.args.b.now.image 1 work (items_in c.args.b.now.input (g.H.Host.now c.args.host.now).left) (g.H.Host.now c.args.host.now).said)
+opening_stops g c told quiet work start =
     opening_points g.H.Host.clock g.H.Host.stopped c.args.host.now c.open.new.host c.args.b.now.image work (items_in c.args.b.now.input (g.H.Host.now c.args.host.now).left) (g.H.Host.now c.args.host.now).said
     (c.open.ensures.stops told quiet work.targets start.targets)
+
+opening_leaves : (g : Over) (c : After-open g) → g.H.Host.tells_image → BeginsQuiet g.H.Host.clock g.H.Host.stopped c.args.host.now (g.H.Host.now c.args.host.now).image → (work : Work) → IsStart (g.H.Host.now c.args.host.now).image work
+    → (i s : List ℕ) → g.H.Host.stopped c.open.new.host (g.H.Host.clock c.open.new.host) i s → OpensTo i work
+opening_leaves g c told quiet work start =
+    opening_now g.H.Host.clock g.H.Host.stopped c.args.host.now c.open.new.host (g.H.Host.now c.args.host.now).image (g.H.Host.now c.args.host.now).said work g.met.H.Host.since quiet start (c.open.ensures.stops told quiet work.targets start.targets)
+
+-- what is so of the session is so of the run
+of_run : (g : Over) (c : After-serve_all g) (P : ℕ → Work → List ℕ → List ℕ → Type 0) → g.H.Host.tells_image → (work : Work) → IsStart (g.H.Host.now c.args.host.now).image work
+    → P c.in-Ok.store.journal.bounds.image (work_of c.in-Ok.store) (g.H.Host.now c.open.new.host).left (g.H.Host.now c.open.new.host).said → P c.args.b.now.image work (g.H.Host.now c.args.host.now).left (g.H.Host.now c.args.host.now).said
+of_run g c P told work start =
+    let old = g.H.Host.now c.args.host.now in
+    let mid = g.H.Host.now c.open.new.host in
+    let store = work_of c.in-Ok.store in
+    let same : store ≡ work = one_start old.image store work (starts old.image mid.image store (c.in-Ok.ensures.opened told) (c.in-Ok.ensures.image told) (c.in-Ok.ensures.holds told)) start in
+    same_run P c.args.b.now.image c.in-Ok.store.journal.bounds.image work store old.left mid.left old.said mid.said
+    (ap (λ (b : Bounds). b.image) c.in-Ok.ensures.bounds) same c.open.ensures.rest.left c.open.ensures.rest.said
+
+session_stops : (g : Over) (c : After-serve_all g) → g.H.Host.tells_image → g.H.Host.tells_said → g.H.Host.tells_input → BeginsQuiet g.H.Host.clock g.H.Host.stopped c.args.host.now (g.H.Host.now c.args.host.now).image
+    → (work : Work) → IsStart (g.H.Host.now c.args.host.now).image work
+    → Leaves g.H.Host.clock g.H.Host.stopped c.args.host.now c.serve_all.new.host (IsSessionPoint c.args.b.now.image 1 work (items_in c.args.b.now.input (g.H.Host.now c.args.host.now).left) (g.H.Host.now c.args.host.now).said)
+session_stops g c told told_said told_input quiet work start =
+    run_after g.H.Host.clock g.H.Host.stopped c.args.host.now c.open.new.host c.serve_all.new.host _ _
+    (opening_points g.H.Host.clock g.H.Host.stopped c.args.host.now c.open.new.host c.args.b.now.image work (items_in c.args.b.now.input (g.H.Host.now c.args.host.now).left) (g.H.Host.now c.args.host.now).said
+    (c.open.ensures.stops told quiet work.targets start.targets))
+    (of_run g c (λ b w l t. Leaves g.H.Host.clock g.H.Host.stopped c.open.new.host c.serve_all.new.host (IsSessionPoint b 1 w (items_in c.args.b.now.input l) t)) told work start
+    (c.serve_all.ensures.stops told told_said told_input (c.in-Ok.ensures.quiet told quiet))) (λ i s p. p)
+
+asked_in_run : (g : Over) (c : After-serve_all g) → g.H.Host.tells_image → g.H.Host.tells_said → g.H.Host.tells_input → (work : Work) → IsStart (g.H.Host.now c.args.host.now).image work
+    → Asked (AsksSettled c.args.b.now.image work (g.H.Host.now c.args.host.now).left (length (g.H.Host.now c.args.host.now).said)) (g.H.Host.now c.args.host.now).asked (g.H.Host.now c.serve_all.new.host).asked
+asked_in_run g c told told_said told_input work start =
+    let old = g.H.Host.now c.args.host.now in
+    let new = g.H.Host.now c.serve_all.new.host in
+    subst (λ (a : List (ℕ × ℕ)). Asked (AsksSettled c.args.b.now.image work old.left (length old.said)) a new.asked) c.open.ensures.rest.asked
+    (of_run g c (λ b w l t. Asked (AsksSettled b w l (length t)) (g.H.Host.now c.open.new.host).asked new.asked) told work start (c.serve_all.ensures.asked told_said told_input))
+
+pub returns-in-Err-StoreFault-clause-stops : goal.returns-in-Err-StoreFault-clause-stops
+returns-in-Err-StoreFault-clause-stops g c told told_said told_input quiet work start = opening_stops g (goal.at.returns-in-Err-StoreFault-clause-stops g c).After-open told quiet work start
 
 pub returns-in-Err-Memory-clause-stops : goal.returns-in-Err-Memory-clause-stops
-returns-in-Err-Memory-clause-stops g c told told_said told_input quiet work start =
-    opening_points g.H.Host.clock g.H.Host.stopped c.args.host.now c.open.new.host c.args.b.now.image work (items_in c.args.b.now.input (g.H.Host.now c.args.host.now).left) (g.H.Host.now c.args.host.now).said
-    (c.open.ensures.stops told quiet work.targets start.targets)
+returns-in-Err-Memory-clause-stops g c told told_said told_input quiet work start = opening_stops g (goal.at.returns-in-Err-Memory-clause-stops g c).After-open told quiet work start
 
 pub returns-in-Ok-serve_all-clause-stops : goal.returns-in-Ok-serve_all-clause-stops
-returns-in-Ok-serve_all-clause-stops g c told told_said told_input quiet work start =
-    let image = (g.H.Host.now c.args.host.now).image in
-    let store = work_of c.in-Ok.store in
-    let same : store ≡ work = one_start image store work (starts image (g.H.Host.now c.open.new.host).image store (c.in-Ok.ensures.opened told) (c.in-Ok.ensures.image told) (c.in-Ok.ensures.holds told)) start in
-    session_points g.H.Host.clock g.H.Host.stopped c.args.host.now c.open.new.host c.args.b.now.image work (items_in c.args.b.now.input (g.H.Host.now c.args.host.now).left) (g.H.Host.now c.args.host.now).said
-    c.serve_all.new.host c.in-Ok.store.journal.bounds.image store (items_in c.args.b.now.input (g.H.Host.now c.open.new.host).left) (g.H.Host.now c.open.new.host).said
-    (ap (λ (b : Bounds). b.image) c.in-Ok.ensures.bounds) same (ap (λ (l : List ℕ). items_in c.args.b.now.input l) c.open.ensures.rest.left) c.open.ensures.rest.said
-    (c.open.ensures.stops told quiet work.targets start.targets) (c.serve_all.ensures.stops told told_said told_input (c.in-Ok.ensures.quiet told quiet))
+returns-in-Ok-serve_all-clause-stops g c told told_said told_input quiet work start = session_stops g (goal.at.returns-in-Ok-serve_all-clause-stops g c).After-serve_all told told_said told_input quiet work start
 
 pub returns-clause-stops : goal.returns-clause-stops
-returns-clause-stops g c told told_said told_input quiet work start =
-    let image = (g.H.Host.now c.args.host.now).image in
-    let store = work_of c.in-Ok.store in
-    let same : store ≡ work = one_start image store work (starts image (g.H.Host.now c.open.new.host).image store (c.in-Ok.ensures.opened told) (c.in-Ok.ensures.image told) (c.in-Ok.ensures.holds told)) start in
-    session_points g.H.Host.clock g.H.Host.stopped c.args.host.now c.open.new.host c.args.b.now.image work (items_in c.args.b.now.input (g.H.Host.now c.args.host.now).left) (g.H.Host.now c.args.host.now).said
-    c.serve_all.new.host c.in-Ok.store.journal.bounds.image store (items_in c.args.b.now.input (g.H.Host.now c.open.new.host).left) (g.H.Host.now c.open.new.host).said
-    (ap (λ (b : Bounds). b.image) c.in-Ok.ensures.bounds) same (ap (λ (l : List ℕ). items_in c.args.b.now.input l) c.open.ensures.rest.left) c.open.ensures.rest.said
-    (c.open.ensures.stops told quiet work.targets start.targets) (c.serve_all.ensures.stops told told_said told_input (c.in-Ok.ensures.quiet told quiet))
+returns-clause-stops g c told told_said told_input quiet work start = session_stops g (goal.at.returns-clause-stops g c).After-serve_all told told_said told_input quiet work start
 
 pub returns-in-Ok-serve_all-clause-complete : goal.returns-in-Ok-serve_all-clause-complete
 returns-in-Ok-serve_all-clause-complete g c told told_said told_input _ =
@@ -54,8 +82,8 @@ returns-in-Ok-serve_all-clause-complete g c told told_said told_input _ =
     record {
       start = store;
       is_start = starts old.image (g.H.Host.now c.open.new.host).image store (c.in-Ok.ensures.opened told) (c.in-Ok.ensures.image told) (c.in-Ok.ensures.holds told);
-      said = c.in-Ok-serve_all.ensures.said told_said told_input ∙ ap (λ (t : List ℕ). t ++ joined (replies c.in-Ok.store.journal.bounds.image 1 store (items_in c.args.b.now.input (g.H.Host.now c.open.new.host).left))) c.open.ensures.rest.said
-          ∙ ap (λ n. old.said ++ joined (replies n 1 store (items_in c.args.b.now.input (g.H.Host.now c.open.new.host).left))) image_bound ∙ ap (λ ls. old.said ++ joined (replies c.args.b.now.image 1 store ls)) items;
+      said = c.in-Ok-serve_all.ensures.said told_said told_input ∙ ap (λ (t : List ℕ). t ++ concat (replies c.in-Ok.store.journal.bounds.image 1 store (items_in c.args.b.now.input (g.H.Host.now c.open.new.host).left))) c.open.ensures.rest.said
+          ∙ ap (λ n. old.said ++ concat (replies n 1 store (items_in c.args.b.now.input (g.H.Host.now c.open.new.host).left))) image_bound ∙ ap (λ ls. old.said ++ concat (replies c.args.b.now.image 1 store ls)) items;
       holds = subst (λ w. Holds (g.H.Host.now c.serve_all.new.host).image w)
           (c.in-Ok-serve_all.ensures.work told_input ∙ ap (λ n. after n 1 store (items_in c.args.b.now.input (g.H.Host.now c.open.new.host).left)) image_bound ∙ ap (λ ls. after c.args.b.now.image 1 store ls) items)
           (c.in-Ok-serve_all.ensures.holds told);
@@ -66,85 +94,41 @@ returns-in-Ok-serve_all-clause-complete g c told told_said told_input _ =
 pub returns-in-Err-StoreFault-clause-broken : goal.returns-in-Err-StoreFault-clause-broken
 returns-in-Err-StoreFault-clause-broken g c told told_said told_input quiet work start _ =
     let old = g.H.Host.now c.args.host.now in
-    let new = g.H.Host.now c.open.new.host in
-    idle_broken c.args.b.now.image 1 work (items_in c.args.b.now.input old.left) old.said new.said (g.H.Host.stopped c.open.new.host (g.H.Host.clock c.open.new.host)) c.open.ensures.rest.said
-    (opening_now g.H.Host.clock g.H.Host.stopped c.args.host.now c.open.new.host old.image old.said work g.met.H.Host.since quiet start (c.open.ensures.stops told quiet work.targets start.targets))
+    idle_broken c.args.b.now.image 1 work (items_in c.args.b.now.input old.left) old.said (g.H.Host.now c.open.new.host).said (g.H.Host.stopped c.open.new.host (g.H.Host.clock c.open.new.host)) c.open.ensures.rest.said
+    (opening_leaves g (goal.at.returns-in-Err-StoreFault-clause-broken g c).After-open told quiet work start)
 
 pub returns-in-Err-Memory-clause-between : goal.returns-in-Err-Memory-clause-between
 returns-in-Err-Memory-clause-between g c told told_said told_input quiet work start _ =
     let old = g.H.Host.now c.args.host.now in
-    let new = g.H.Host.now c.open.new.host in
-    idle_between c.args.b.now.image 1 work (items_in c.args.b.now.input old.left) old.said new.said (g.H.Host.stopped c.open.new.host (g.H.Host.clock c.open.new.host)) c.open.ensures.rest.said
-    (opening_now g.H.Host.clock g.H.Host.stopped c.args.host.now c.open.new.host old.image old.said work g.met.H.Host.since quiet start (c.open.ensures.stops told quiet work.targets start.targets))
+    idle_between c.args.b.now.image 1 work (items_in c.args.b.now.input old.left) old.said (g.H.Host.now c.open.new.host).said (g.H.Host.stopped c.open.new.host (g.H.Host.clock c.open.new.host)) c.open.ensures.rest.said
+    (opening_leaves g (goal.at.returns-in-Err-Memory-clause-between g c).After-open told quiet work start)
 
 pub returns-in-Ok-serve_all-clause-asked : goal.returns-in-Ok-serve_all-clause-asked
-returns-in-Ok-serve_all-clause-asked g c told told_said told_input work start =
-    let old = g.H.Host.now c.args.host.now in
-    let mid = g.H.Host.now c.open.new.host in
-    let new = g.H.Host.now c.serve_all.new.host in
-    let store = work_of c.in-Ok.store in
-    let same : store ≡ work = one_start old.image store work (starts old.image mid.image store (c.in-Ok.ensures.opened told) (c.in-Ok.ensures.image told) (c.in-Ok.ensures.holds told)) start in
-    let same_bound : c.in-Ok.store.journal.bounds.image ≡ c.args.b.now.image = ap (λ (b : Bounds). b.image) c.in-Ok.ensures.bounds in
-    subst (λ (a : List (ℕ × ℕ)). Asked (AsksSettled c.args.b.now.image work old.left (length old.said)) a new.asked) c.open.ensures.rest.asked
-    (same_run (λ b w l t. Asked (AsksSettled b w l (length t)) mid.asked new.asked) c.args.b.now.image c.in-Ok.store.journal.bounds.image work store old.left mid.left old.said mid.said
-    same_bound same c.open.ensures.rest.left c.open.ensures.rest.said (c.serve_all.ensures.asked told_said told_input))
+returns-in-Ok-serve_all-clause-asked g c told told_said told_input work start = asked_in_run g (goal.at.returns-in-Ok-serve_all-clause-asked g c).After-serve_all told told_said told_input work start
 
 pub returns-clause-asked : goal.returns-clause-asked
-returns-clause-asked g c told told_said told_input work start =
-    let old = g.H.Host.now c.args.host.now in
-    let mid = g.H.Host.now c.open.new.host in
-    let new = g.H.Host.now c.serve_all.new.host in
-    let store = work_of c.in-Ok.store in
-    let same : store ≡ work = one_start old.image store work (starts old.image mid.image store (c.in-Ok.ensures.opened told) (c.in-Ok.ensures.image told) (c.in-Ok.ensures.holds told)) start in
-    let same_bound : c.in-Ok.store.journal.bounds.image ≡ c.args.b.now.image = ap (λ (b : Bounds). b.image) c.in-Ok.ensures.bounds in
-    subst (λ (a : List (ℕ × ℕ)). Asked (AsksSettled c.args.b.now.image work old.left (length old.said)) a new.asked) c.open.ensures.rest.asked
-    (same_run (λ b w l t. Asked (AsksSettled b w l (length t)) mid.asked new.asked) c.args.b.now.image c.in-Ok.store.journal.bounds.image work store old.left mid.left old.said mid.said
-    same_bound same c.open.ensures.rest.left c.open.ensures.rest.said (c.serve_all.ensures.asked told_said told_input))
+returns-clause-asked g c told told_said told_input work start = asked_in_run g (goal.at.returns-clause-asked g c).After-serve_all told told_said told_input work start
 
 pub returns-clause-waiting : goal.returns-clause-waiting
 returns-clause-waiting g c told told_said told_input quiet work start ends =
-    let old = g.H.Host.now c.args.host.now in
-    let mid = g.H.Host.now c.open.new.host in
-    let new = g.H.Host.now c.serve_all.new.host in
-    let store = work_of c.in-Ok.store in
-    let same : store ≡ work = one_start old.image store work (starts old.image mid.image store (c.in-Ok.ensures.opened told) (c.in-Ok.ensures.image told) (c.in-Ok.ensures.holds told)) start in
-    let same_bound : c.in-Ok.store.journal.bounds.image ≡ c.args.b.now.image = ap (λ (b : Bounds). b.image) c.in-Ok.ensures.bounds in
-    let now = g.H.Host.stopped c.serve_all.new.host (g.H.Host.clock c.serve_all.new.host) in
-    same_run (λ b w l t. IsWaiting b w l t new now) c.args.b.now.image c.in-Ok.store.journal.bounds.image work store old.left mid.left old.said mid.said
-    same_bound same c.open.ensures.rest.left c.open.ensures.rest.said (c.serve_all.ensures.waiting told told_said told_input (c.in-Ok.ensures.quiet told quiet) (either_stop c.serve_all.result c.in-Err.stop session.Input session.Long (c.status_of.result ≡ INPUT_FAULT) (c.status_of.result ≡ INPUT_TOO_LONG) c.in-Err.is c.status_of.ensures.input_fault c.status_of.ensures.too_long ends))
+    of_run g (goal.at.returns-clause-waiting g c).After-serve_all
+    (λ b w l t. IsWaiting b w l t (g.H.Host.now c.serve_all.new.host) (g.H.Host.stopped c.serve_all.new.host (g.H.Host.clock c.serve_all.new.host))) told work start
+    (c.serve_all.ensures.waiting told told_said told_input (c.in-Ok.ensures.quiet told quiet) (either_stop c.serve_all.result c.in-Err.stop session.Input session.Long (c.status_of.result ≡ INPUT_FAULT) (c.status_of.result ≡ INPUT_TOO_LONG) c.in-Err.is c.status_of.ensures.input_fault c.status_of.ensures.too_long ends))
 
 pub returns-clause-between : goal.returns-clause-between
 returns-clause-between g c told told_said told_input quiet work start ends =
-    let old = g.H.Host.now c.args.host.now in
-    let mid = g.H.Host.now c.open.new.host in
-    let new = g.H.Host.now c.serve_all.new.host in
-    let store = work_of c.in-Ok.store in
-    let same : store ≡ work = one_start old.image store work (starts old.image mid.image store (c.in-Ok.ensures.opened told) (c.in-Ok.ensures.image told) (c.in-Ok.ensures.holds told)) start in
-    let same_bound : c.in-Ok.store.journal.bounds.image ≡ c.args.b.now.image = ap (λ (b : Bounds). b.image) c.in-Ok.ensures.bounds in
-    let now = g.H.Host.stopped c.serve_all.new.host (g.H.Host.clock c.serve_all.new.host) in
-    same_run (λ b w l t. IsBetween OpensTo (works b 1 w (items_in c.args.b.now.input l)) (replies b 1 w (items_in c.args.b.now.input l)) t new.said now) c.args.b.now.image c.in-Ok.store.journal.bounds.image work store old.left mid.left old.said mid.said
-    same_bound same c.open.ensures.rest.left c.open.ensures.rest.said (c.serve_all.ensures.between told told_said told_input (c.in-Ok.ensures.quiet told quiet) (c.in-Err.is ∙ ap (λ x. Err x) (c.status_of.ensures.memory ends)))
+    of_run g (goal.at.returns-clause-between g c).After-serve_all
+    (λ b w l t. IsBetween OpensTo (works b 1 w (items_in c.args.b.now.input l)) (replies b 1 w (items_in c.args.b.now.input l)) t (g.H.Host.now c.serve_all.new.host).said (g.H.Host.stopped c.serve_all.new.host (g.H.Host.clock c.serve_all.new.host))) told work start
+    (c.serve_all.ensures.between told told_said told_input (c.in-Ok.ensures.quiet told quiet) (c.in-Err.is ∙ ap (λ x. Err x) (c.status_of.ensures.memory ends)))
 
 pub returns-clause-broken : goal.returns-clause-broken
 returns-clause-broken g c told told_said told_input quiet work start ends =
-    let old = g.H.Host.now c.args.host.now in
-    let mid = g.H.Host.now c.open.new.host in
-    let new = g.H.Host.now c.serve_all.new.host in
-    let store = work_of c.in-Ok.store in
-    let same : store ≡ work = one_start old.image store work (starts old.image mid.image store (c.in-Ok.ensures.opened told) (c.in-Ok.ensures.image told) (c.in-Ok.ensures.holds told)) start in
-    let same_bound : c.in-Ok.store.journal.bounds.image ≡ c.args.b.now.image = ap (λ (b : Bounds). b.image) c.in-Ok.ensures.bounds in
-    let now = g.H.Host.stopped c.serve_all.new.host (g.H.Host.clock c.serve_all.new.host) in
-    same_run (λ b w l t. IsBroken OpensTo (works b 1 w (items_in c.args.b.now.input l)) (replies b 1 w (items_in c.args.b.now.input l)) t new.said now) c.args.b.now.image c.in-Ok.store.journal.bounds.image work store old.left mid.left old.said mid.said
-    same_bound same c.open.ensures.rest.left c.open.ensures.rest.said (c.serve_all.ensures.broken told told_said told_input (c.in-Ok.ensures.quiet told quiet) (c.in-Err.is ∙ ap (λ x. Err x) (c.status_of.ensures.store_fault ends)))
+    of_run g (goal.at.returns-clause-broken g c).After-serve_all
+    (λ b w l t. IsBroken OpensTo (works b 1 w (items_in c.args.b.now.input l)) (replies b 1 w (items_in c.args.b.now.input l)) t (g.H.Host.now c.serve_all.new.host).said (g.H.Host.stopped c.serve_all.new.host (g.H.Host.clock c.serve_all.new.host))) told work start
+    (c.serve_all.ensures.broken told told_said told_input (c.in-Ok.ensures.quiet told quiet) (c.in-Err.is ∙ ap (λ x. Err x) (c.status_of.ensures.store_fault ends)))
 
 pub returns-clause-cut_short : goal.returns-clause-cut_short
 returns-clause-cut_short g c told told_said told_input quiet work start ends =
-    let old = g.H.Host.now c.args.host.now in
-    let mid = g.H.Host.now c.open.new.host in
-    let new = g.H.Host.now c.serve_all.new.host in
-    let store = work_of c.in-Ok.store in
-    let same : store ≡ work = one_start old.image store work (starts old.image mid.image store (c.in-Ok.ensures.opened told) (c.in-Ok.ensures.image told) (c.in-Ok.ensures.holds told)) start in
-    let same_bound : c.in-Ok.store.journal.bounds.image ≡ c.args.b.now.image = ap (λ (b : Bounds). b.image) c.in-Ok.ensures.bounds in
-    let now = g.H.Host.stopped c.serve_all.new.host (g.H.Host.clock c.serve_all.new.host) in
-    same_run (λ b w l t. IsCutShort OpensTo (works b 1 w (items_in c.args.b.now.input l)) (replies b 1 w (items_in c.args.b.now.input l)) t new.said now) c.args.b.now.image c.in-Ok.store.journal.bounds.image work store old.left mid.left old.said mid.said
-    same_bound same c.open.ensures.rest.left c.open.ensures.rest.said (c.serve_all.ensures.cut_short told told_said told_input (c.in-Ok.ensures.quiet told quiet) (c.in-Err.is ∙ ap (λ x. Err x) (c.status_of.ensures.sink_fault ends)))
+    of_run g (goal.at.returns-clause-cut_short g c).After-serve_all
+    (λ b w l t. IsCutShort OpensTo (works b 1 w (items_in c.args.b.now.input l)) (replies b 1 w (items_in c.args.b.now.input l)) t (g.H.Host.now c.serve_all.new.host).said (g.H.Host.stopped c.serve_all.new.host (g.H.Host.clock c.serve_all.new.host))) told work start
+    (c.serve_all.ensures.cut_short told told_said told_input (c.in-Ok.ensures.quiet told quiet) (c.in-Err.is ∙ ap (λ x. Err x) (c.status_of.ensures.sink_fault ends)))

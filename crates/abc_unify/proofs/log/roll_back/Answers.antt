@@ -1,7 +1,7 @@
 use Rattle.std.proofs.Common.{◌≡◌, ◌∙◌, ◌≤◌, ◌++◌, ◌+◌, ◌∷◌, [], length, take, drop, ap, arith}
 use Rattle.std.proofs.Math.ListN.{length-append, length-set}
 use Rattle.abc_unify.specs.Logs.{rolled, EntryIn}
-use Rattle.abc_unify.proofs.Steps.{All-left}
+use Rattle.abc_num.proofs.Parts.{All-front}
 use Rattle.abc_unify.proofs.Logging.{popped, taken}
 use Rattle.abc_unify.proofs.log.roll_back.Goals as goal
 
@@ -13,7 +13,7 @@ loop-log-preserved-in-Some c =
     let keep : c.args.keep ≤ length c.pop.new.self.items = omega arith in
     rw c.put.ensures (record {
       keep = keep;
-      inside = λ k d h. rw length-set (All-left (EntryIn (length c.loop-log.slots)) c.pop.new.self.items (c.in-Some.entry ∷ []) (rw items at c.loop-log.invariant.inside) k d h);
+      inside = λ k d h. rw length-set (All-front (EntryIn (length c.loop-log.slots)) c.pop.new.self.items (c.in-Some.entry ∷ []) (rw items at c.loop-log.invariant.inside) k d h);
       same = popped c.loop-log.slots c.pop.new.self.items c.in-Some.entry c.args.keep keep ∙ (ap (λ l. rolled c.loop-log.slots (drop c.args.keep l)) back ∙ c.loop-log.invariant.same);
       older = taken c.pop.new.self.items c.in-Some.entry c.args.keep keep ∙ (ap (λ l. take c.args.keep l) back ∙ c.loop-log.invariant.older);
     })

@@ -1,11 +1,28 @@
 use Rattle.std.proofs.Common.{rules, ◌≡◌, ◌<◌, ◌+◌, ◌-◌, ◌++◌, ◌∷◌, ◌∙◌, true, false, [], length, take, nat_lt, sym, ap, refl}
 use Rattle.abc_outside.proofs.Leaves.{run_after}
 use Rattle.abc_session.specs.Lines.{lines_by}
-use Rattle.abc_session.specs.Reading.{shown, pending_of, TookPart}
-use Rattle.abc_session.proofs.Started.{found, uses, if_found, went_on, read_on, wants, ends_empty, ends_line, last_found, none_left}
-use Rattle.abc_session.specs.Asking.{next_ask}
+use Rattle.abc_session.specs.Reading.{shown, pending_of, TookPart, WantsMore, AsksMore}
+use Rattle.abc_session.proofs.Started.{IsStarted, found, uses, if_found, went_on, read_on, wants, ends_empty, ends_line, last_found, none_left}
+use Rattle.abc_session.specs.Asking.{Asked, next_ask}
 use Rattle.abc_session.proofs.Asks.{asks_more, rising_read}
+use Rattle.abc_session.proofs.reader.Reader.next.Given.{Over}
+use Rattle.abc_session.proofs.reader.Reader.next.Goals.{In_ok-take_part, After-fill}
 use Rattle.abc_session.proofs.reader.Reader.next.Goals as goal
+
+-- all that is pending goes to the line, and the line goes on
+goes_on : (g : Over) (c : In_ok-take_part g) → c.in_ok-take_part.field-0 ≡ false → g.H.Host.tells_input
+    → IsStarted (pending_of c.args.self.now) (g.H.Host.now c.args.host.now).left c.args.self.now.taken (shown c.take_part.new.line) [] (g.H.Host.now c.pieces.host).left c.pieces.self.taken
+goes_on g c not told = went_on _ _ _ _ _ _ _ (c.pieces.invariant.started told) (pending_of c.take_part.new.self) (shown c.take_part.new.line) (rw not at c.in_ok-take_part.ensures.part)
+
+wants_now : (g : Over) (c : In_ok-take_part g) → c.in_ok-take_part.field-0 ≡ false → g.H.Host.tells_input → WantsMore (pending_of c.args.self.now) (g.H.Host.now c.args.host.now).left c.args.self.now.taken c.take_part.new.self.taken
+wants_now g c not told = let w = wants _ _ _ _ _ _ _ (goes_on g c not told) refl in (w.0, c.in_ok-take_part.ensures.taken ∙ w.1, w.2, w.3)
+
+-- the read that follows
+asks_on : (g : Over) (c : After-fill g) → WantsMore (pending_of c.args.self.now) (g.H.Host.now c.args.host.now).left c.args.self.now.taken c.take_part.new.self.taken → g.H.Host.tells_said → g.H.Host.tells_input
+    → Asked (AsksMore (pending_of c.args.self.now) (g.H.Host.now c.args.host.now).left c.args.self.now.taken (length (g.H.Host.now c.args.host.now).said)) (g.H.Host.now c.args.host.now).asked (g.H.Host.now c.fill.new.host).asked
+asks_on g c wants told_said told =
+    asks_more (pending_of c.args.self.now) (g.H.Host.now c.args.host.now).left c.args.self.now.taken (length (g.H.Host.now c.args.host.now).said) c.take_part.new.self.taken (length (g.H.Host.now c.pieces.host).said)
+    (g.H.Host.now c.args.host.now).asked (g.H.Host.now c.pieces.host).asked (g.H.Host.now c.fill.new.host).asked wants (ap length c.pieces.invariant.keeps.said) (c.pieces.invariant.asked told_said told) (c.fill.ensures.asked told_said)
 
 pub returns-then-branch-clause-line : goal.returns-then-branch-clause-line
 returns-then-branch-clause-line g c told =
@@ -27,7 +44,7 @@ returns-then-self-clause-line g c told =
     let line = shown c.take_part.new.line in
     let part : TookPart (pending_of c.pieces.self) (pending_of new) (shown c.pieces.line) line false = rw c.if-branch.false at c.in_ok-take_part.ensures.part in
     let none = part.rest (search rules) in
-    let s = went_on _ _ _ _ _ _ _ (c.pieces.invariant.started told) (pending_of new) line part in
+    let s = goes_on g (goal.at.returns-then-self-clause-line g c).In_ok-take_part c.if-branch.false told in
     let end : left ≡ [] = search rules in
     let lt : c.pieces.self.taken < bound = search rules in
     last_found c.if_any.result c.take_part.new.line _ _ c.if_any.ensures
@@ -35,28 +52,20 @@ returns-then-self-clause-line g c told =
     (none_left (pending_of new) left _ _ none end)
 
 pub returns-then-self-2-clause-wants : goal.returns-then-self-2-clause-wants
-returns-then-self-2-clause-wants g c told _ =
-    let part : TookPart (pending_of c.pieces.self) (pending_of c.take_part.new.self) (shown c.pieces.line) (shown c.take_part.new.line) false = rw c.if-branch.false at c.in_ok-take_part.ensures.part in
-    let s = went_on _ _ _ _ _ _ _ (c.pieces.invariant.started told) (pending_of c.take_part.new.self) (shown c.take_part.new.line) part in
-    let w = wants _ _ _ _ _ _ _ s refl in
-    (w.0, c.in_ok-take_part.ensures.taken ∙ w.1, w.2, w.3)
+returns-then-self-2-clause-wants g c told _ = wants_now g (goal.at.returns-then-self-2-clause-wants g c).In_ok-take_part c.if-branch.false told
 
 pub pieces-preserved : goal.pieces-preserved
 pieces-preserved g c =
     let i = c.pieces.invariant in
-    let part : TookPart (pending_of c.pieces.self) (pending_of c.take_part.new.self) (shown c.pieces.line) (shown c.take_part.new.line) false = rw c.if-branch.false at c.in_ok-take_part.ensures.part in
-    let s = λ (told : g.H.Host.tells_input). went_on _ _ _ _ _ _ _ (i.started told) (pending_of c.take_part.new.self) (shown c.take_part.new.line) part in
+    let part = (goal.at.pieces-preserved g c).In_ok-take_part in
     record {
       counts = search rules;
       bound = search rules;
       ended = search rules;
       used = search rules;
       short = search rules;
-      started = λ told. read_on _ _ _ _ _ _ _ (s told) (pending_of c.fill.new.self) (g.H.Host.now c.fill.new.host).left c.fill.new.self.taken refl (c.in_ok-fill.ensures.bytes told) (search rules);
-      asked = λ told_said told.
-          let w = wants _ _ _ _ _ _ _ (s told) refl in
-          asks_more (pending_of c.args.self.now) (g.H.Host.now c.args.host.now).left c.args.self.now.taken (length (g.H.Host.now c.args.host.now).said) c.take_part.new.self.taken (length (g.H.Host.now c.pieces.host).said)
-          (g.H.Host.now c.args.host.now).asked (g.H.Host.now c.pieces.host).asked (g.H.Host.now c.fill.new.host).asked (w.0, c.in_ok-take_part.ensures.taken ∙ w.1, w.2, w.3) (ap length i.keeps.said) (i.asked told_said told) (c.fill.ensures.asked told_said);
+      started = λ told. read_on _ _ _ _ _ _ _ (goes_on g part c.if-branch.false told) (pending_of c.fill.new.self) (g.H.Host.now c.fill.new.host).left c.fill.new.self.taken refl (c.in_ok-fill.ensures.bytes told) (search rules);
+      asked = λ told_said told. asks_on g (goal.at.pieces-preserved g c).After-fill (wants_now g part c.if-branch.false told) told_said told;
       asks_rise = λ told. rising_read (next_ask c.args.self.now.taken c.args.self.now.ended) c.pieces.self.taken c.take_part.new.self.taken _ c.pieces.self.ended c.take_part.new.self.ended
           (g.H.Host.now c.args.host.now).asked (g.H.Host.now c.pieces.host).asked (g.H.Host.now c.fill.new.host).asked c.in_ok-take_part.ensures.taken c.in_ok-take_part.ensures.ended (search rules)
           (i.asks_rise told) (c.fill.ensures.asks_rise told);
@@ -72,20 +81,10 @@ pieces-preserved g c =
     }
 
 pub returns-in_err-fill-clause-wants : goal.returns-in_err-fill-clause-wants
-returns-in_err-fill-clause-wants g c told _ =
-    let part : TookPart (pending_of c.pieces.self) (pending_of c.take_part.new.self) (shown c.pieces.line) (shown c.take_part.new.line) false = rw c.if-branch.false at c.in_ok-take_part.ensures.part in
-    let s = went_on _ _ _ _ _ _ _ (c.pieces.invariant.started told) (pending_of c.take_part.new.self) (shown c.take_part.new.line) part in
-    let w = wants _ _ _ _ _ _ _ s refl in
-    (w.0, c.in_err-fill.ensures.failed ∙ c.in_ok-take_part.ensures.taken ∙ w.1, w.2, w.3)
+returns-in_err-fill-clause-wants g c told _ = let w = wants_now g (goal.at.returns-in_err-fill-clause-wants g c).In_ok-take_part c.if-branch.false told in (w.0, c.in_err-fill.ensures.failed ∙ w.1, w.2, w.3)
 
 pub returns-in_err-fill-clause-asked : goal.returns-in_err-fill-clause-asked
-returns-in_err-fill-clause-asked g c told_said told =
-    let i = c.pieces.invariant in
-    let part : TookPart (pending_of c.pieces.self) (pending_of c.take_part.new.self) (shown c.pieces.line) (shown c.take_part.new.line) false = rw c.if-branch.false at c.in_ok-take_part.ensures.part in
-    let s = went_on _ _ _ _ _ _ _ (i.started told) (pending_of c.take_part.new.self) (shown c.take_part.new.line) part in
-    let w = wants _ _ _ _ _ _ _ s refl in
-    asks_more (pending_of c.args.self.now) (g.H.Host.now c.args.host.now).left c.args.self.now.taken (length (g.H.Host.now c.args.host.now).said) c.take_part.new.self.taken (length (g.H.Host.now c.pieces.host).said)
-    (g.H.Host.now c.args.host.now).asked (g.H.Host.now c.pieces.host).asked (g.H.Host.now c.fill.new.host).asked (w.0, c.in_ok-take_part.ensures.taken ∙ w.1, w.2, w.3) (ap length i.keeps.said) (i.asked told_said told) (c.fill.ensures.asked told_said)
+returns-in_err-fill-clause-asked g c told_said told = asks_on g (goal.at.returns-in_err-fill-clause-asked g c).After-fill (wants_now g (goal.at.returns-in_err-fill-clause-asked g c).In_ok-take_part c.if-branch.false told) told_said told
 
 pub returns-then-branch-clause-uses : goal.returns-then-branch-clause-uses
 returns-then-branch-clause-uses g c told not_ended =

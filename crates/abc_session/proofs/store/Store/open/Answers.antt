@@ -1,50 +1,54 @@
-use Rattle.std.proofs.Common.{◌≡◌, ◌∙◌, ℕ, List, [], sym, ap}
+use Rattle.std.proofs.Common.{◌≡◌, ◌∙◌, ℕ, ℤ, List, [], sym, ap}
 use Rattle.std.specs.Prelude.{Ok, Err}
+use Rattle.abc_outside.specs.Stop.{Leaves}
+use Rattle.abc_journal.specs.Journal.{BeginsQuiet}
 use Rattle.abc_session.specs.Workspace.{opens, targets_from}
 use Rattle.abc_session.proofs.Opening.{opens_of, opens_err, opens_settled, long_image, opening_stops}
+use Rattle.abc_session.proofs.store.Store.open.Given.{Over}
+use Rattle.abc_session.proofs.store.Store.open.Goals.{After-begin, In-Some}
 use Rattle.abc_session.proofs.store.Store.open.Goals as goal
 
-pub returns-in-Err-StoreFault-clause-stops : goal.returns-in-Err-StoreFault-clause-stops
-returns-in-Err-StoreFault-clause-stops g c told quiet targets is =
+-- while the journal begins every stop leaves what the image opens to
+begins : (g : Over) (c : After-begin g) → g.H.Host.tells_image → BeginsQuiet g.H.Host.clock g.H.Host.stopped c.args.host.now (g.H.Host.now c.args.host.now).image → (targets : List (List ℕ × ℤ)) → opens (g.H.Host.now c.args.host.now).image ≡ Ok targets
+    → Leaves g.H.Host.clock g.H.Host.stopped c.args.host.now c.begin.new.host (λ i s. (s ≡ (g.H.Host.now c.args.host.now).said) × (opens i ≡ Ok targets))
+begins g c told quiet targets is =
     opening_stops g.H.Host.clock g.H.Host.stopped c.args.host.now c.begin.new.host (g.H.Host.now c.args.host.now).image (g.H.Host.now c.args.host.now).said targets is (c.begin.ensures.stops told quiet)
 
+pub returns-in-Err-StoreFault-clause-stops : goal.returns-in-Err-StoreFault-clause-stops
+returns-in-Err-StoreFault-clause-stops g c told = begins g (goal.at.returns-in-Err-StoreFault-clause-stops g c).After-begin told
+
 pub returns-in-Err-NotAStore-clause-stops : goal.returns-in-Err-NotAStore-clause-stops
-returns-in-Err-NotAStore-clause-stops g c told quiet targets is =
-    opening_stops g.H.Host.clock g.H.Host.stopped c.args.host.now c.begin.new.host (g.H.Host.now c.args.host.now).image (g.H.Host.now c.args.host.now).said targets is (c.begin.ensures.stops told quiet)
+returns-in-Err-NotAStore-clause-stops g c told = begins g (goal.at.returns-in-Err-NotAStore-clause-stops g c).After-begin told
 
 pub returns-in-Err-NotAStore-clause-refused : goal.returns-in-Err-NotAStore-clause-refused
 returns-in-Err-NotAStore-clause-refused g c told is =
     (c.in-Err-NotAStore.field-0-0, opens_err (g.H.Host.now c.args.host.now).image c.in-Err-NotAStore.field-0-0 ((rw c.in-Err-NotAStore.field-0-is at c.in-Err-NotAStore.ensures.refused) told))
 
 pub returns-in-Err-Memory-clause-stops : goal.returns-in-Err-Memory-clause-stops
-returns-in-Err-Memory-clause-stops g c told quiet targets is =
-    opening_stops g.H.Host.clock g.H.Host.stopped c.args.host.now c.begin.new.host (g.H.Host.now c.args.host.now).image (g.H.Host.now c.args.host.now).said targets is (c.begin.ensures.stops told quiet)
+returns-in-Err-Memory-clause-stops g c told = begins g (goal.at.returns-in-Err-Memory-clause-stops g c).After-begin told
 
 pub returns-in_err-targets-clause-stops : goal.returns-in_err-targets-clause-stops
-returns-in_err-targets-clause-stops g c told quiet targets is =
-    opening_stops g.H.Host.clock g.H.Host.stopped c.args.host.now c.begin.new.host (g.H.Host.now c.args.host.now).image (g.H.Host.now c.args.host.now).said targets is (c.begin.ensures.stops told quiet)
+returns-in_err-targets-clause-stops g c told = begins g (goal.at.returns-in_err-targets-clause-stops g c).After-begin told
 
 pub returns-in-Some-clause-stops : goal.returns-in-Some-clause-stops
-returns-in-Some-clause-stops g c told quiet targets is =
-    opening_stops g.H.Host.clock g.H.Host.stopped c.args.host.now c.begin.new.host (g.H.Host.now c.args.host.now).image (g.H.Host.now c.args.host.now).said targets is (c.begin.ensures.stops told quiet)
+returns-in-Some-clause-stops g c told = begins g (goal.at.returns-in-Some-clause-stops g c).After-begin told
 
 pub returns-clause-stops : goal.returns-clause-stops
-returns-clause-stops g c told quiet targets is =
-    opening_stops g.H.Host.clock g.H.Host.stopped c.args.host.now c.begin.new.host (g.H.Host.now c.args.host.now).image (g.H.Host.now c.args.host.now).said targets is (c.begin.ensures.stops told quiet)
+returns-clause-stops g c told = begins g (goal.at.returns-clause-stops g c).After-begin told
 
-pub returns-in-Some-clause-opened : goal.returns-in-Some-clause-opened
-returns-in-Some-clause-opened g c told =
+-- what the payloads make is what the image opens to
+replayed : (g : Over) (c : In-Some g) → g.H.Host.tells_image → opens (g.H.Host.now c.args.host.now).image ≡ Ok c.in-Some.targets
+replayed g c told =
     let start = c.in-Ok.found.0.layout.start in
     let made : targets_from start [] c.deref.result.now ≡ Ok c.in-Some.targets = rw c.in-Some.is at (c.in_ok-targets.ensures start) in
     opens_of _ _ (c.in-Ok.ensures.opened told) ∙ ap (λ (ps : List (List ℕ)). targets_from start [] ps) (sym c.deref.ensures.value) ∙ made
 
+pub returns-in-Some-clause-opened : goal.returns-in-Some-clause-opened
+returns-in-Some-clause-opened g c told = replayed g (goal.at.returns-in-Some-clause-opened g c).In-Some told
+
 pub returns-in-Some-clause-holds : goal.returns-in-Some-clause-holds
 returns-in-Some-clause-holds g c told =
-    let start = c.in-Ok.found.0.layout.start in
-    let made : targets_from start [] c.deref.result.now ≡ Ok c.in-Some.targets = rw c.in-Some.is at (c.in_ok-targets.ensures start) in
-    let before : opens (g.H.Host.now c.args.host.now).image ≡ Ok c.in-Some.targets =
-    opens_of _ _ (c.in-Ok.ensures.opened told) ∙ ap (λ (ps : List (List ℕ)). targets_from start [] ps) (sym c.deref.ensures.value) ∙ made in
-    record { layout = c.in-Ok.ensures.layout told; opens_to = ap opens (c.in-Ok.ensures.image told) ∙ opens_settled (g.H.Host.now c.args.host.now).image ∙ before }
+    record { layout = c.in-Ok.ensures.layout told; opens_to = ap opens (c.in-Ok.ensures.image told) ∙ opens_settled (g.H.Host.now c.args.host.now).image ∙ replayed g (goal.at.returns-in-Some-clause-holds g c).In-Some told }
 
 pub returns-clause-refused : goal.returns-clause-refused
 returns-clause-refused g c told is =

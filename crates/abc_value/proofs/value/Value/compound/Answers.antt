@@ -1,41 +1,14 @@
-use Rattle.std.proofs.Common.{◌≡◌, ◌+◌, length, sym, ap, ◌∙◌, arith}
-use Rattle.std.proofs.lemmas.Result.{err_from_is_err_and}
-use Rattle.abc_value.specs.Tree.{trees}
-use Rattle.abc_value.specs.Sizes.{trees_height, trees_weight, sizes_fault}
-use Rattle.abc_value.proofs.Making.{compound_too_long, compound_fault, compound_invariant, parts_height}
+use Rattle.std.proofs.Common.{◌≡◌, ◌+◌, List, sym, ◌∙◌, subst}
+use Rattle.abc_value.specs.Tree.{Tree, compound, trees}
+use Rattle.abc_value.specs.Sizes.{trees_height, trees_weight}
+use Rattle.abc_value.specs.Regular.{IsRegular}
+use Rattle.abc_value.proofs.Making.{compound_fault, compound_invariant}
 use Rattle.abc_value.proofs.value.Value.compound.Goals as goal
-
-pub returns-then-len-gt-MOST_ELEMENTS-clause-sizes : goal.returns-then-len-gt-MOST_ELEMENTS-clause-sizes
-returns-then-len-gt-MOST_ELEMENTS-clause-sizes c = λ _. compound_too_long c.args.fields.items (omega arith)
-
-pub overflow_add-weight : goal.overflow_add-weight
-overflow_add-weight c = omega (arith, c.total_weight-weight.ensures.bound, c.from_vec-parts.ensures.len)
-
-pub tallest-height-requires : goal.tallest-height-requires
-tallest-height-requires c =
-    parts_height c.from_vec-parts.result.items c.total_weight-weight.ensures.regular
-
-pub returns-in_err-check_sizes-clause-sizes : goal.returns-in_err-check_sizes-clause-sizes
-returns-in_err-check_sizes-clause-sizes c =
-    let p = err_from_is_err_and c.from_residual.result c.from_residual.ensures.1 in
-    let xs = c.args.fields.items in
-    let count : c.len-2.result ≡ length xs = omega arith in
-    let high : c.tallest-height.result ≡ trees_height (trees xs) = c.tallest-height.ensures ∙ ap (λ ys. trees_height (trees ys)) c.from_vec-parts.ensures.items in
-    let heavy : c.total_weight-weight.result + 5 ≡ trees_weight (trees xs) + 5 = ap (λ w. w + 5) (c.total_weight-weight.ensures.weight ∙ ap (λ ys. trees_weight (trees ys)) c.from_vec-parts.ensures.items) in
-    rw (p.1, p.2) (λ _. sym (compound_fault xs _ _ high heavy) ∙ ap (λ n. sizes_fault n c.tallest-height.result (c.total_weight-weight.result + 5)) (sym count) ∙ c.in_err-check_sizes.ensures)
 
 pub invariant_of-result : goal.invariant_of-result
 invariant_of-result c =
-    let xs = c.from_vec-parts.result.items in
-    let same = c.from_vec-parts.ensures.items in
-    let count : c.len-2.result ≡ length xs = omega arith in
-    let heavy = ap (λ w. w + 5) c.total_weight-weight.ensures.weight in
-    compound_invariant xs _ _ (omega (arith, c.requires, ap length same)) c.total_weight-weight.ensures.regular c.tallest-height.ensures heavy (ap (λ n. sizes_fault n c.tallest-height.result (c.total_weight-weight.result + 5)) (sym count) ∙ c.in_ok-check_sizes.ensures)
-
-pub returns-clause-sizes : goal.returns-clause-sizes
-returns-clause-sizes c =
-    let xs = c.args.fields.items in
-    let count : c.len-2.result ≡ length xs = omega arith in
-    let high : c.tallest-height.result ≡ trees_height (trees xs) = c.tallest-height.ensures ∙ ap (λ ys. trees_height (trees ys)) c.from_vec-parts.ensures.items in
-    let heavy : c.total_weight-weight.result + 5 ≡ trees_weight (trees xs) + 5 = ap (λ w. w + 5) (c.total_weight-weight.ensures.weight ∙ ap (λ ys. trees_weight (trees ys)) c.from_vec-parts.ensures.items) in
-    sym (compound_fault xs _ _ high heavy) ∙ ap (λ n. sizes_fault n c.tallest-height.result (c.total_weight-weight.result + 5)) (sym count) ∙ c.in_ok-check_sizes.ensures
+    let e = c.in_ok-parts.ensures in
+    let h = c.in_ok-parts.height in
+    let w = c.in_ok-parts.weight in
+    let P : List Tree → Type 0 = λ ys. (h ≡ trees_height (trees ys)) × (w ≡ trees_weight (trees ys) + 5) × IsRegular (compound (trees ys)) in
+    subst P (sym e.parts) (compound_invariant c.args.fields.items h w c.requires e.regular e.height e.weight (compound_fault c.args.fields.items h w e.height e.weight ∙ e.sizes))

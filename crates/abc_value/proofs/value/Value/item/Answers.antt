@@ -1,6 +1,7 @@
-use Rattle.std.proofs.Common.{◌<◌, length, slice_get, sym, ap, ◌∙◌, subst, arith, inl, Some, Err, [], ◌∷◌}
+use Rattle.std.proofs.Common.{◌<◌, length, slice_get, sym, ap, ◌∙◌, subst, arith, inl, refl, Some, Err, [], ◌∷◌}
 use Rattle.std.proofs.lemmas.Result.{err_from_is_err_and}
 use Rattle.std.proofs.lemmas.List.{length-map}
+use Rattle.std.proofs.lemmas.Option.{slice_get_read}
 use Rattle.abc_value.specs.Tree.{text}
 use Rattle.abc_value.specs.Regular.{IsCharacter}
 use Rattle.abc_value.specs.Items.{elements_of, item_of}
@@ -8,7 +9,7 @@ use Rattle.abc_num.specs.Number.{whole_of}
 use Rattle.abc_value.specs.View.{node_tree}
 use Rattle.abc_value.proofs.Rows.{listed_trees}
 use Rattle.abc_value.proofs.Making.{text_small}
-use Rattle.abc_value.proofs.Itemised.{found_in, fault_in, read_at, copy_answer, small_answer, element_is, characters_at, text_characters, character_at, associate_at, associates_count}
+use Rattle.abc_value.proofs.Itemised.{found_in, fault_in, copy_answer, small_answer, element_is, characters_at, text_characters, character_at, associate_at, associates_count}
 use Rattle.abc_value.proofs.value.Value.item.Goals as goal
 
 pub returns-in_err-place : goal.returns-in_err-place
@@ -52,7 +53,7 @@ returns-in-List c =
     let k = c.in_ok-place.place in
     let f = found_in c.args.self.now c.args.i.now c.len.result k c.requires c.len.ensures.length c.in_ok-place.ensures in
     let is = ap elements_of (sym c.self.view_is ∙ ap node_tree c.in-List.is) ∙ listed_trees xs in
-    let at = ap (λ ys. slice_get ys k) is ∙ read_at xs k c.index-in-List.result.now (omega (arith, f.inside, ap length is)) c.index-in-List.ensures in
+    let at = ap (λ ys. slice_get ys k) is ∙ slice_get_read xs (length xs) k c.index-in-List.result.now refl (omega (arith, f.inside, ap length is)) c.index-in-List.ensures in
     copy_answer (item_of c.args.self.now c.args.i.now) c.index-in-List.result.now c.copy.result (element_is (elements_of c.args.self.now) (whole_of c.args.i.now) k c.index-in-List.result.now f at) c.copy.ensures.ok c.copy.ensures.err
 
 pub returns-in-Table : goal.returns-in-Table

@@ -32,22 +32,10 @@ tallest_entry-height-requires c =
     let after = ap (λ e. slice_set es n e) c.replace-old.ensures.after in
     let now : map as_pair (slice_set es n c.replace-old.new.dest) ≡ with_pair c.args.k c.args.a (map as_pair es) = ap (map as_pair) after ∙ r.is in
     let high = c.self.invariant.0 ∙ ap height_of opened in
-    let heavy = c.self.invariant.1 ∙ ap weight_of opened in
-    let s = regular_sizes c.args.a c.height-high.ensures.regular in
-    let o = regular_sizes (node_tree c.self.inside.node) c.self.invariant.2 in
     omega (arith, r.sizes.height, ap (λ fs. pairs_height (pairs (map as_pair fs))) c.deref.ensures.value, ap (λ ps. pairs_height (pairs ps)) now, high, c.height-high.ensures.height)
 
 pub overflow_add-weight : goal.overflow_add-weight
 overflow_add-weight c =
-    let es = c.in-Table.entries.items in
-    let n = c.args.place in
-    let opened = ap node_tree c.in-Table.is in
-    let read = c.replace-old.ensures.value ∙ c.index_mut.ensures.value ∙ ap (λ d. get_or es n d) (sym c.replace-old.ensures.value) in
-    let r = replacing c.args.k c.args.a c.args.self.now es n c.replace-old.result (sym opened ∙ c.self.view_is) c.requires.place c.requires.there read in
-    let after = ap (λ e. slice_set es n e) c.replace-old.ensures.after in
-    let now : map as_pair (slice_set es n c.replace-old.new.dest) ≡ with_pair c.args.k c.args.a (map as_pair es) = ap (map as_pair) after ∙ r.is in
-    let high = c.self.invariant.0 ∙ ap height_of opened in
-    let heavy = c.self.invariant.1 ∙ ap weight_of opened in
     let s = regular_sizes c.args.a c.height-high.ensures.regular in
     let o = regular_sizes (node_tree c.self.inside.node) c.self.invariant.2 in
     omega (arith, s.1, o.1, c.weight-heavy.ensures.weight, c.self.invariant.1)
@@ -59,12 +47,7 @@ overflow_sub-weight c =
     let opened = ap node_tree c.in-Table.is in
     let read = c.replace-old.ensures.value ∙ c.index_mut.ensures.value ∙ ap (λ d. get_or es n d) (sym c.replace-old.ensures.value) in
     let r = replacing c.args.k c.args.a c.args.self.now es n c.replace-old.result (sym opened ∙ c.self.view_is) c.requires.place c.requires.there read in
-    let after = ap (λ e. slice_set es n e) c.replace-old.ensures.after in
-    let now : map as_pair (slice_set es n c.replace-old.new.dest) ≡ with_pair c.args.k c.args.a (map as_pair es) = ap (map as_pair) after ∙ r.is in
-    let high = c.self.invariant.0 ∙ ap height_of opened in
     let heavy = c.self.invariant.1 ∙ ap weight_of opened in
-    let s = regular_sizes c.args.a c.height-high.ensures.regular in
-    let o = regular_sizes (node_tree c.self.inside.node) c.self.invariant.2 in
     omega (arith, heavy, r.sizes.weight, c.weight-heavy.ensures.weight, c.weight.ensures.weight)
 
 pub index_mut-requires-in-Err : goal.index_mut-requires-in-Err
@@ -74,12 +57,6 @@ index_mut-requires-in-Err c =
     let opened = ap node_tree c.in-Table.is in
     let read = c.replace-old.ensures.value ∙ c.index_mut.ensures.value ∙ ap (λ d. get_or es n d) (sym c.replace-old.ensures.value) in
     let r = replacing c.args.k c.args.a c.args.self.now es n c.replace-old.result (sym opened ∙ c.self.view_is) c.requires.place c.requires.there read in
-    let after = ap (λ e. slice_set es n e) c.replace-old.ensures.after in
-    let now : map as_pair (slice_set es n c.replace-old.new.dest) ≡ with_pair c.args.k c.args.a (map as_pair es) = ap (map as_pair) after ∙ r.is in
-    let high = c.self.invariant.0 ∙ ap height_of opened in
-    let heavy = c.self.invariant.1 ∙ ap weight_of opened in
-    let s = regular_sizes c.args.a c.height-high.ensures.regular in
-    let o = regular_sizes (node_tree c.self.inside.node) c.self.invariant.2 in
     omega (arith, r.inside)
 
 pub invariant_of-self : goal.invariant_of-self
@@ -88,13 +65,8 @@ invariant_of-self c =
     let n = c.args.place in
     let opened = ap node_tree c.in-Table.is in
     let read = c.replace-old.ensures.value ∙ c.index_mut.ensures.value ∙ ap (λ d. get_or es n d) (sym c.replace-old.ensures.value) in
-    let r = replacing c.args.k c.args.a c.args.self.now es n c.replace-old.result (sym opened ∙ c.self.view_is) c.requires.place c.requires.there read in
-    let after = ap (λ e. slice_set es n e) c.replace-old.ensures.after in
-    let now : map as_pair (slice_set es n c.replace-old.new.dest) ≡ with_pair c.args.k c.args.a (map as_pair es) = ap (map as_pair) after ∙ r.is in
     let high = c.self.invariant.0 ∙ ap height_of opened in
     let heavy = c.self.invariant.1 ∙ ap weight_of opened in
-    let s = regular_sizes c.args.a c.height-high.ensures.regular in
-    let o = regular_sizes (node_tree c.self.inside.node) c.self.invariant.2 in
     let P : List Entry → Type 0 = λ fs. (c.self.inside.height ≡ pairs_height (pairs (map as_pair fs))) × (c.self.inside.weight ≡ pairs_weight (pairs (map as_pair fs)) + 5) × IsRegular (table (pairs (map as_pair fs))) in
     subst P (sym (set_back es n c.replace-old.new.dest c.replace-old.result read)) (high, heavy, subst IsRegular opened c.self.invariant.2)
 
@@ -107,10 +79,7 @@ returns-in-Err-clause-sizes c =
     let r = replacing c.args.k c.args.a c.args.self.now es n c.replace-old.result (sym opened ∙ c.self.view_is) c.requires.place c.requires.there read in
     let after = ap (λ e. slice_set es n e) c.replace-old.ensures.after in
     let now : map as_pair (slice_set es n c.replace-old.new.dest) ≡ with_pair c.args.k c.args.a (map as_pair es) = ap (map as_pair) after ∙ r.is in
-    let high = c.self.invariant.0 ∙ ap height_of opened in
     let heavy = c.self.invariant.1 ∙ ap weight_of opened in
-    let s = regular_sizes c.args.a c.height-high.ensures.regular in
-    let o = regular_sizes (node_tree c.self.inside.node) c.self.invariant.2 in
     let tall : c.tallest_entry-height.result ≡ pairs_height (pairs (with_pair c.args.k c.args.a (map as_pair es))) = c.tallest_entry-height.ensures ∙ ap (λ fs. pairs_height (pairs (map as_pair fs))) c.deref.ensures.value ∙ ap (λ ps. pairs_height (pairs ps)) now in
     let load : c.self.inside.weight + c.weight-heavy.result - c.weight.result ≡ pairs_weight (pairs (with_pair c.args.k c.args.a (map as_pair es))) + 5 = omega (arith, heavy, r.sizes.weight, c.weight-heavy.ensures.weight, c.weight.ensures.weight) in
     let count : c.len.result ≡ length es = omega (arith, c.len.ensures) in
@@ -122,13 +91,6 @@ returns-in-Err-clause-err c =
     let n = c.args.place in
     let opened = ap node_tree c.in-Table.is in
     let read = c.replace-old.ensures.value ∙ c.index_mut.ensures.value ∙ ap (λ d. get_or es n d) (sym c.replace-old.ensures.value) in
-    let r = replacing c.args.k c.args.a c.args.self.now es n c.replace-old.result (sym opened ∙ c.self.view_is) c.requires.place c.requires.there read in
-    let after = ap (λ e. slice_set es n e) c.replace-old.ensures.after in
-    let now : map as_pair (slice_set es n c.replace-old.new.dest) ≡ with_pair c.args.k c.args.a (map as_pair es) = ap (map as_pair) after ∙ r.is in
-    let high = c.self.invariant.0 ∙ ap height_of opened in
-    let heavy = c.self.invariant.1 ∙ ap weight_of opened in
-    let s = regular_sizes c.args.a c.height-high.ensures.regular in
-    let o = regular_sizes (node_tree c.self.inside.node) c.self.invariant.2 in
     ap (λ fs. table (pairs (map as_pair fs))) (set_back es n c.replace-old.new.dest c.replace-old.result read) ∙ sym opened ∙ c.self.view_is
 
 pub invariant_of-self-2 : goal.invariant_of-self-2
@@ -140,10 +102,7 @@ invariant_of-self-2 c =
     let r = replacing c.args.k c.args.a c.args.self.now es n c.replace-old.result (sym opened ∙ c.self.view_is) c.requires.place c.requires.there read in
     let after = ap (λ e. slice_set es n e) c.replace-old.ensures.after in
     let now : map as_pair (slice_set es n c.replace-old.new.dest) ≡ with_pair c.args.k c.args.a (map as_pair es) = ap (map as_pair) after ∙ r.is in
-    let high = c.self.invariant.0 ∙ ap height_of opened in
     let heavy = c.self.invariant.1 ∙ ap weight_of opened in
-    let s = regular_sizes c.args.a c.height-high.ensures.regular in
-    let o = regular_sizes (node_tree c.self.inside.node) c.self.invariant.2 in
     let tall : c.tallest_entry-height.result ≡ pairs_height (pairs (with_pair c.args.k c.args.a (map as_pair es))) = c.tallest_entry-height.ensures ∙ ap (λ fs. pairs_height (pairs (map as_pair fs))) c.deref.ensures.value ∙ ap (λ ps. pairs_height (pairs ps)) now in
     let load : c.self.inside.weight + c.weight-heavy.result - c.weight.result ≡ pairs_weight (pairs (with_pair c.args.k c.args.a (map as_pair es))) + 5 = omega (arith, heavy, r.sizes.weight, c.weight-heavy.ensures.weight, c.weight.ensures.weight) in
     let count : c.len.result ≡ length es = omega (arith, c.len.ensures) in
@@ -159,10 +118,6 @@ returns-clause-ok c =
     let r = replacing c.args.k c.args.a c.args.self.now es n c.replace-old.result (sym opened ∙ c.self.view_is) c.requires.place c.requires.there read in
     let after = ap (λ e. slice_set es n e) c.replace-old.ensures.after in
     let now : map as_pair (slice_set es n c.replace-old.new.dest) ≡ with_pair c.args.k c.args.a (map as_pair es) = ap (map as_pair) after ∙ r.is in
-    let high = c.self.invariant.0 ∙ ap height_of opened in
-    let heavy = c.self.invariant.1 ∙ ap weight_of opened in
-    let s = regular_sizes c.args.a c.height-high.ensures.regular in
-    let o = regular_sizes (node_tree c.self.inside.node) c.self.invariant.2 in
     ap (λ ps. table (pairs ps)) (now ∙ ap (with_pair c.args.k c.args.a) r.same)
 
 pub returns-clause-sizes : goal.returns-clause-sizes
@@ -174,10 +129,7 @@ returns-clause-sizes c =
     let r = replacing c.args.k c.args.a c.args.self.now es n c.replace-old.result (sym opened ∙ c.self.view_is) c.requires.place c.requires.there read in
     let after = ap (λ e. slice_set es n e) c.replace-old.ensures.after in
     let now : map as_pair (slice_set es n c.replace-old.new.dest) ≡ with_pair c.args.k c.args.a (map as_pair es) = ap (map as_pair) after ∙ r.is in
-    let high = c.self.invariant.0 ∙ ap height_of opened in
     let heavy = c.self.invariant.1 ∙ ap weight_of opened in
-    let s = regular_sizes c.args.a c.height-high.ensures.regular in
-    let o = regular_sizes (node_tree c.self.inside.node) c.self.invariant.2 in
     let tall : c.tallest_entry-height.result ≡ pairs_height (pairs (with_pair c.args.k c.args.a (map as_pair es))) = c.tallest_entry-height.ensures ∙ ap (λ fs. pairs_height (pairs (map as_pair fs))) c.deref.ensures.value ∙ ap (λ ps. pairs_height (pairs ps)) now in
     let load : c.self.inside.weight + c.weight-heavy.result - c.weight.result ≡ pairs_weight (pairs (with_pair c.args.k c.args.a (map as_pair es))) + 5 = omega (arith, heavy, r.sizes.weight, c.weight-heavy.ensures.weight, c.weight.ensures.weight) in
     let count : c.len.result ≡ length es = omega (arith, c.len.ensures) in

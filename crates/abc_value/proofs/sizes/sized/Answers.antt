@@ -1,0 +1,33 @@
+use Rattle.std.proofs.Common.{◌≡◌, ◌+◌, length, sym, ap, ◌∙◌, arith}
+use Rattle.std.proofs.lemmas.Result.{err_from_is_err_and}
+use Rattle.abc_value.specs.Tree.{trees}
+use Rattle.abc_value.specs.Sizes.{trees_height, trees_weight, sizes_fault}
+use Rattle.abc_value.proofs.Making.{compound_too_long, compound_fault, parts_height}
+use Rattle.abc_value.proofs.sizes.sized.Goals as goal
+
+pub returns-then-len-gt-MOST_ELEMENTS-clause-sizes : goal.returns-then-len-gt-MOST_ELEMENTS-clause-sizes
+returns-then-len-gt-MOST_ELEMENTS-clause-sizes c = λ _. compound_too_long c.args.items.items (omega arith)
+
+pub overflow_add-weight : goal.overflow_add-weight
+overflow_add-weight c = omega (arith, c.total_weight-weight.ensures.bound, c.from_vec-parts.ensures.len)
+
+pub tallest-height-requires : goal.tallest-height-requires
+tallest-height-requires c =
+    parts_height c.from_vec-parts.result.items c.total_weight-weight.ensures.regular
+
+pub returns-in_err-check_sizes-clause-sizes : goal.returns-in_err-check_sizes-clause-sizes
+returns-in_err-check_sizes-clause-sizes c =
+    let p = err_from_is_err_and c.from_residual.result c.from_residual.ensures.1 in
+    let xs = c.args.items.items in
+    let count : c.len-2.result ≡ length xs = omega arith in
+    let high : c.tallest-height.result ≡ trees_height (trees xs) = c.tallest-height.ensures ∙ ap (λ ys. trees_height (trees ys)) c.from_vec-parts.ensures.items in
+    let heavy : c.total_weight-weight.result + 5 ≡ trees_weight (trees xs) + 5 = ap (λ w. w + 5) (c.total_weight-weight.ensures.weight ∙ ap (λ ys. trees_weight (trees ys)) c.from_vec-parts.ensures.items) in
+    rw (p.1, p.2) (λ _. sym (compound_fault xs _ _ high heavy) ∙ ap (λ n. sizes_fault n c.tallest-height.result (c.total_weight-weight.result + 5)) (sym count) ∙ c.in_err-check_sizes.ensures)
+
+pub returns-clause-sizes : goal.returns-clause-sizes
+returns-clause-sizes c =
+    let xs = c.args.items.items in
+    let count : c.len-2.result ≡ length xs = omega arith in
+    let high : c.tallest-height.result ≡ trees_height (trees xs) = c.tallest-height.ensures ∙ ap (λ ys. trees_height (trees ys)) c.from_vec-parts.ensures.items in
+    let heavy : c.total_weight-weight.result + 5 ≡ trees_weight (trees xs) + 5 = ap (λ w. w + 5) (c.total_weight-weight.ensures.weight ∙ ap (λ ys. trees_weight (trees ys)) c.from_vec-parts.ensures.items) in
+    sym (compound_fault xs _ _ high heavy) ∙ ap (λ n. sizes_fault n c.tallest-height.result (c.total_weight-weight.result + 5)) (sym count) ∙ c.in_ok-check_sizes.ensures
