@@ -23,6 +23,7 @@ pub use front::tree_in_front;
 pub use height::{a_part_reaches, reaches};
 pub use laws::{address_form, conversion_end, one_address, one_expression};
 pub use lexemes::{Lexeme, lexemes_of};
+pub use make::with_last;
 pub use names::{kind_of, sign_of};
 pub use signs::Sign;
 pub use tree::ExpressionFront;

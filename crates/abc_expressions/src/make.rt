@@ -100,25 +100,18 @@ fn compound(parts: Exprs) -> Expr
     }
 }
 
-fn with_part(mut parts: Exprs, last: Expr) -> Result<Exprs, OutOfMemory>
-    ensures { IfOk result (λ xs. xs ≡ parts ++ last ∷ []) }
+/// The list with one element more, at its end.
+pub fn with_last<T: Drop>(mut items: Items<T>, last: T) -> Result<Items<T>, OutOfMemory>
+    ensures { IfOk result (λ xs. xs ≡ items ++ last ∷ []) }
 {
-    parts.push(last)?;
-    Ok(parts)
+    items.push(last)?;
+    Ok(items)
 }
 
-fn with_fill(mut fills: Fills, last: Fill) -> Result<Fills, OutOfMemory>
-    ensures { IfOk result (λ xs. xs ≡ fills ++ last ∷ []) }
-{
-    fills.push(last)?;
-    Ok(fills)
-}
-
-fn with_pair(mut pairs: Pairs, key: Expr, associate: Expr) -> Result<Pairs, OutOfMemory>
+fn with_pair(pairs: Pairs, key: Expr, associate: Expr) -> Result<Pairs, OutOfMemory>
     ensures { IfOk result (λ xs. xs ≡ pairs ++ paired key associate ∷ []) }
 {
-    pairs.push(Pair { key, associate })?;
-    Ok(pairs)
+    with_last(pairs, Pair { key, associate })
 }
 
 /// The compound of these parts and a further one.
@@ -133,7 +126,7 @@ fn settled_whole(parts: Exprs, sign: Sign, a: Expr) -> Result<Settled, OutOfMemo
     ensures { IfOk result (λ x. x ≡ settled (grp.Whole parts) sign a) }
 {
     match sign {
-        Sign::Comma => Ok(Settled::Goes(Group::Whole(with_part(parts, a)?))),
+        Sign::Comma => Ok(Settled::Goes(Group::Whole(with_last(parts, a)?))),
         _ => Ok(Settled::Stops(compound_with(parts, a)?)),
     }
 }
@@ -142,7 +135,7 @@ fn settled_round(parts: Exprs, sign: Sign, a: Expr) -> Result<Settled, OutOfMemo
     ensures { IfOk result (λ x. x ≡ settled (grp.Round parts) sign a) }
 {
     match sign {
-        Sign::Comma => Ok(Settled::Goes(Group::Round(with_part(parts, a)?))),
+        Sign::Comma => Ok(Settled::Goes(Group::Round(with_last(parts, a)?))),
         Sign::Close => Ok(Settled::Gives(compound_with(parts, a)?)),
         _ => Ok(Settled::Wrong),
     }
@@ -158,7 +151,7 @@ fn settled_select(
     ensures { IfOk result (λ x. x ≡ settled (grp.Select table parts) sign a) }
 {
     match sign {
-        Sign::Comma => Ok(Settled::Goes(Group::Select(table, with_part(parts, a)?))),
+        Sign::Comma => Ok(Settled::Goes(Group::Select(table, with_last(parts, a)?))),
         Sign::Unbracket => {
             let key = Boxed::new(alloc, compound_with(parts, a)?)?;
             Ok(Settled::Gives(Expr::Select(Boxed::new(alloc, table)?, key)))
@@ -171,7 +164,7 @@ fn settled_key(pairs: Pairs, parts: Exprs, sign: Sign, a: Expr) -> Result<Settle
     ensures { IfOk result (λ x. x ≡ settled (grp.Key pairs parts) sign a) }
 {
     match sign {
-        Sign::Comma => Ok(Settled::Goes(Group::Key(pairs, with_part(parts, a)?))),
+        Sign::Comma => Ok(Settled::Goes(Group::Key(pairs, with_last(parts, a)?))),
         Sign::Unbracket => Ok(Settled::Keyed(pairs, compound_with(parts, a)?)),
         _ => Ok(Settled::Wrong),
     }
@@ -182,8 +175,8 @@ fn settled_fill(fills: Fills, sign: Sign, a: Expr) -> Result<Settled, OutOfMemor
 {
     match sign {
         Sign::PointPoint => Ok(Settled::Goes(Group::Range(fills, a))),
-        Sign::Semicolon => Ok(Settled::Goes(Group::Fill(with_fill(fills, Fill::One(a))?))),
-        Sign::Unbrace => Ok(Settled::Gives(Expr::List(with_fill(fills, Fill::One(a))?))),
+        Sign::Semicolon => Ok(Settled::Goes(Group::Fill(with_last(fills, Fill::One(a))?))),
+        Sign::Unbrace => Ok(Settled::Gives(Expr::List(with_last(fills, Fill::One(a))?))),
         _ => Ok(Settled::Wrong),
     }
 }
@@ -193,11 +186,11 @@ fn settled_range(fills: Fills, from: Expr, sign: Sign, a: Expr) -> Result<Settle
 {
     match sign {
         Sign::Semicolon => {
-            let fills = with_fill(fills, Fill::Range(from, a))?;
+            let fills = with_last(fills, Fill::Range(from, a))?;
             Ok(Settled::Goes(Group::Fill(fills)))
         }
         Sign::Unbrace => {
-            let fills = with_fill(fills, Fill::Range(from, a))?;
+            let fills = with_last(fills, Fill::Range(from, a))?;
             Ok(Settled::Gives(Expr::List(fills)))
         }
         _ => Ok(Settled::Wrong),

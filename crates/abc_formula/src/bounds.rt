@@ -7,7 +7,7 @@ ghost use Rattle.abc_formula.specs.TestSteps.{Fewer, NameSteps, NameCounts, Find
 ghost use Rattle.abc_expressions.specs.Lexemes.{IsSpelled};
 
 use crate::test_names::is_keyword;
-use abc_expressions::{FormulaFault, Kind, Lexeme, Sign, kind_of, sign_of};
+use abc_expressions::{FormulaFault, Kind, Lexeme, Sign, kind_of, sign_of, with_last};
 use abc_num::{Items, Names, OutOfMemory};
 use abc_tree::{Bound, Bounds, NameId};
 use std::alloc::Global;
@@ -79,13 +79,6 @@ fn gathered(names: Bounds) -> Bound
     }
 }
 
-fn with_bound(mut names: Bounds, last: Bound) -> Result<Bounds, OutOfMemory>
-    ensures { IfOk result (λ xs. xs ≡ names ++ last ∷ []) }
-{
-    names.push(last)?;
-    Ok(names)
-}
-
 /// Names on their way.
 #[derive(Drop)]
 pub(crate) struct Naming {
@@ -106,7 +99,7 @@ impl Naming {
         };
         match self.groups.pop() {
             Some(names) => {
-                let names = with_bound(names, Bound::One(NameId(i)))?;
+                let names = with_last(names, Bound::One(NameId(i)))?;
                 self.groups.push(names)?;
                 Ok(false)
             }
@@ -158,7 +151,7 @@ impl Naming {
         };
         match self.groups.pop() {
             Some(outer) => {
-                let outer = with_bound(outer, gathered(names))?;
+                let outer = with_last(outer, gathered(names))?;
                 self.groups.push(outer)?;
                 self.left += 1;
                 Ok(false)

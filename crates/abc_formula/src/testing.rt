@@ -14,7 +14,9 @@ use crate::brackets::is_round;
 use crate::test_frames::{Behind, Front, Place, TestFrame};
 use crate::test_names::{is_keyword, membership_of, quantifier_of, relation_of};
 use crate::wrapping::wrapped_by_all;
-use abc_expressions::{ExpressionFront, FormulaFault, Group, Lexeme, Sign, tree_in_front};
+use abc_expressions::{
+    ExpressionFront, FormulaFault, Group, Lexeme, Sign, tree_in_front, with_last,
+};
 use abc_num::{Items, Names, Stack};
 use abc_tokens::one_reading;
 use abc_tree::{Expr, Link, Links, Quantifier, Template, TemplateKind, Test};
@@ -65,12 +67,11 @@ fn single<'a>(
     tree_in_front(alloc, own, tokens, left, least, Group::Single)
 }
 
-fn with_link(mut links: Links, last: Link) -> Result<Links, FormulaFault>
+fn with_link(links: Links, last: Link) -> Result<Links, FormulaFault>
     ensures ok { IfOk result (λ xs. xs ≡ links ++ last ∷ []) }
     ensures err { IfErr result (λ f. f ≡ FormulaFault.Memory) }
 {
-    links.push(last)?;
-    Ok(links)
+    Ok(with_last(links, last)?)
 }
 
 /// The relations of a chain behind its first expression.
