@@ -33,7 +33,7 @@ pub record IsConversion (bytes inner rest : List ℕ) : Type 0 where
   pub tokens : (ts : List Token) × AreBare inner ts
   pub first : (front more : List ℕ) (ts : List Token) → bytes ≡ front ++ backquote ∷ more → AreBare front ts → length inner ≤ length front
 
--- the same, its tokens read from the front: they end at the backquote, and the numbers among them have values
+-- the same, its tokens read from the front: they end at the backquote, each byte is a character, and the numbers among them have values
 abbrev pub ReadsConversion : List ℕ → List ℕ → List ℕ → Type 0
 ReadsConversion bytes inner rest = (bytes ≡ inner ++ backquote ∷ rest) × (has_characters inner ≡ true) × ((ns : List (List ℕ)) × Converts bytes rest ns × All IsSound ns)
 

@@ -15,9 +15,10 @@ use abc_tokens::one_reading;
 use std::alloc::Global;
 
 /// The tree in front of the tokens, where so many brackets may open: an expression of this level at least (1 to 10, loosest
-/// first), or, by the group, several with commas between. It's the one tree that is spelled in front and ends there: no `[`
-/// stands behind it, no operator that gives its level or a tighter one, and, where commas go on, no comma. BadCommand exactly
-/// where there is none; never TooMany.
+/// first), or, by the group, several with commas between. For a single one of these levels, and for several from level 1 of
+/// which none was read before, it's the one tree that is spelled in front and ends there: no `[` stands behind it, no operator
+/// that gives its level or a tighter one, and, where commas go on, no comma; and BadCommand comes exactly where there is none.
+/// Of other groups and levels only `read` tells. Never TooMany.
 pub fn tree_in_front<'a>(
     alloc: Global,
     own: &Names,

@@ -29,7 +29,8 @@ pub fn address_form()
     ensures { (own : List (List ℕ)) (d : ℕ) (a : Expr) (ts rest : List Lexeme) → SpelledAddress own d a ts rest ↔ (Spelled own d a ts rest × (is_address a ≡ true)) }
 {}
 
-/// A conversion ends at the first backquote with tokens before it, and that is where its tokens, read from the front, end.
+/// A conversion ends at the first backquote before which there are tokens without a fault and without a comment, and that is
+/// where its tokens, read from the front, end.
 pub fn conversion_end()
     ensures { (bytes inner rest : List ℕ) → IsConversion bytes inner rest ↔ ReadsConversion bytes inner rest }
 {
