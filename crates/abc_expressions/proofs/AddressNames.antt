@@ -17,7 +17,7 @@ use Rattle.abc_expressions.specs.declared.signs.Sign.{Sign}
 use Rattle.abc_expressions.specs.declared.signs.Sign.TheVariants as s
 use Rattle.abc_expressions.specs.Lexemes.{ArePart}
 use Rattle.abc_expressions.specs.Addresses.{opened_by, is_bracket, in_key, names_outside, each_once, names_of_address}
-use Rattle.abc_expressions.specs.AddressSteps.{depth_behind, depth_by, names_behind}
+use Rattle.abc_expressions.specs.inner.AddressSteps.{depth_behind, depth_by, names_behind}
 use Rattle.abc_tokens.proofs.TextLaws.{closes_ends}
 
 -- ---- the count that stands for the open brackets

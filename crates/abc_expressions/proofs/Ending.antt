@@ -13,7 +13,7 @@ use Rattle.abc_expressions.specs.declared.lexemes.Lexeme.TheVariants as t
 use Rattle.abc_expressions.specs.declared.signs.Sign.TheVariants as s
 use Rattle.abc_expressions.specs.Fronts.{EndsBefore, NoComma}
 use Rattle.abc_expressions.specs.Grammar.{compound}
-use Rattle.abc_expressions.specs.Machine.{reach_by, reach, within, sign_of, settled}
+use Rattle.abc_expressions.specs.inner.Machine.{reach_by, reach, within, sign_of, settled}
 use Rattle.abc_expressions.specs.Operators.{infix_of}
 use Rattle.abc_expressions.proofs.Levels.{HasShape, ShapedReach, shaped_reach, reach_joins, grasp, Follows}
 

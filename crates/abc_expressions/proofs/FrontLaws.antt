@@ -12,8 +12,8 @@ use Rattle.abc_expressions.specs.declared.frames.Turn.TheVariants as turn
 use Rattle.abc_expressions.specs.declared.lexemes.Lexeme.{Lexeme}
 use Rattle.abc_expressions.specs.declared.tree.ExpressionFront.{ExpressionFront}
 use Rattle.abc_expressions.specs.Fronts.{EndsBefore, NoComma, IsFront, IsWholeFront, FindsOnly}
-use Rattle.abc_expressions.specs.Machine.{Found, Leaves, reader, taken, run, popped, finished, tree_at}
-use Rattle.abc_expressions.specs.Steps.{Finds}
+use Rattle.abc_expressions.specs.inner.Machine.{Found, Leaves, reader, taken, run, popped, finished, tree_at}
+use Rattle.abc_expressions.specs.inner.Steps.{Finds}
 use Rattle.abc_tokens.proofs.Faults.{OneReading}
 use Rattle.abc_expressions.proofs.Complete.{Stops, complete, read_as}
 use Rattle.abc_expressions.proofs.Ending.{follows, stays_out, reach_ends, whole_stops}

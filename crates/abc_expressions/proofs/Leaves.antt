@@ -10,13 +10,13 @@ use Rattle.abc_tokens.specs.Scanned as scan
 use Rattle.abc_tokens.specs.Tokens.{AreTokens, IsSound, has_characters}
 use Rattle.abc_expressions.specs.declared.lexemes.Lexeme.{Lexeme}
 use Rattle.abc_expressions.specs.Lexemes.{seen}
-use Rattle.abc_expressions.specs.Numbers.{number_at}
+use Rattle.abc_expressions.specs.inner.Numbers.{number_at}
 use Rattle.std.specs.Prelude.{pos}
 use Rattle.abc_num.specs.Literal.{literal_numerator, literal_denominator}
 use Rattle.abc_num.specs.Ratio.{IsNoNumber}
 use Rattle.abc_tree.specs.declared.formulas.Expr.TheVariants as e
 use Rattle.abc_expressions.specs.Grammar.{IsValueOf}
-use Rattle.abc_expressions.specs.Machine.{bare_by, has_bare, lexed, lexed_by, is_some, is_sound, number_of}
+use Rattle.abc_expressions.specs.inner.Machine.{bare_by, has_bare, lexed, lexed_by, is_some, is_sound, number_of}
 use Rattle.abc_expressions.specs.Texts.{is_bare, AreBare}
 use Rattle.abc_tokens.proofs.Faults.{OneReading}
 use Rattle.abc_expressions.proofs.NumberValues.{value_found, value_told}

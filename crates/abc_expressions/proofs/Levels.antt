@@ -20,7 +20,7 @@ use Rattle.abc_expressions.specs.declared.frames.Turn.TheVariants as turn
 use Rattle.abc_expressions.specs.declared.frames.Reach.{Reach}
 use Rattle.abc_expressions.specs.declared.frames.Reach.TheVariants as r
 use Rattle.abc_expressions.specs.Operators.{kind_of, infix_by, sign_infix, infix_of, leftward, joined1, joined2}
-use Rattle.abc_expressions.specs.Machine.{Leaves, reach_by, reach, within, taken, popped, finished, run}
+use Rattle.abc_expressions.specs.inner.Machine.{Leaves, reach_by, reach, within, taken, popped, finished, run}
 
 -- the levels of an operator: to the left, or those of a power
 abbrev pub HasShape : Infix → Type 0

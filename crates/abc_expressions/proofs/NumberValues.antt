@@ -14,7 +14,7 @@ use Rattle.abc_num.proofs.Ratios.{pos_ne}
 use Rattle.abc_predef.specs.Numbers.{gcd, are_within, ratio}
 use Rattle.abc_predef.proofs.Ratios.{gcd_is, parts_within, ratio_is}
 use Rattle.abc_expressions.specs.Grammar.{IsValueOf}
-use Rattle.abc_expressions.specs.Numbers.{number_at}
+use Rattle.abc_expressions.specs.inner.Numbers.{number_at}
 
 module _ (a b : ℕ) (positive : 0 < b) where
   abbrev g : ℕ

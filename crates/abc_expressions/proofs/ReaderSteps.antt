@@ -16,8 +16,8 @@ use Rattle.abc_expressions.specs.declared.frames.Step.{Step}
 use Rattle.abc_expressions.specs.declared.frames.Step.TheVariants as step
 use Rattle.abc_expressions.specs.declared.lexemes.Lexeme.{Lexeme}
 use Rattle.abc_expressions.specs.Operators.{joined1, joined2}
-use Rattle.abc_expressions.specs.Machine.{Found, Next, reach, goes_on, within, taken, popped, sign_of, settled, settles, opened, wanted, finished, whole_found, wholly}
-use Rattle.abc_expressions.specs.Steps.{Steps, Gives, behind, opens}
+use Rattle.abc_expressions.specs.inner.Machine.{Found, Next, reach, goes_on, within, taken, popped, sign_of, settled, settles, opened, wanted, finished, whole_found, wholly}
+use Rattle.abc_expressions.specs.inner.Steps.{Steps, Gives, behind, opens}
 
 -- the same group
 pub opened_as : {g h : Group} → g ≡ h → (here : List Lexeme) (k d : ℕ) (stack : List Frame) (x : Result Step FormulaFault) (e : ℕ) (new : List Frame)

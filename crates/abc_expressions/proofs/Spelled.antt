@@ -10,9 +10,9 @@ use Rattle.abc_tree.specs.Regular.{is_address}
 use Rattle.abc_expressions.specs.Addresses.{SpelledAddress}
 use Rattle.abc_expressions.proofs.AddressLaws.{spelled_address, address_spelled}
 use Rattle.abc_expressions.specs.Grammar.{Spelled}
-use Rattle.abc_expressions.specs.Machine.{alone, reader, tree_of}
+use Rattle.abc_expressions.specs.inner.Machine.{alone, reader, tree_of}
 use Rattle.abc_tokens.proofs.Faults.{OneReading}
-use Rattle.abc_expressions.specs.Steps.{Answers}
+use Rattle.abc_expressions.specs.inner.Steps.{Answers}
 use Rattle.abc_expressions.proofs.Complete.{read_as}
 use Rattle.abc_expressions.proofs.Sound.{reads, alone_some}
 

@@ -9,8 +9,8 @@ use Rattle.abc_expressions.specs.declared.texts.Cut.TheVariants as cut
 use Rattle.abc_expressions.specs.declared.texts.Found.TheVariants as found
 use Rattle.abc_expressions.specs.declared.texts.Part.{Part}
 use Rattle.abc_expressions.specs.declared.texts.Part.TheVariants as part
-use Rattle.abc_expressions.specs.Machine.{Splitting, conversion_from, before_parts, converted, at_backquote, split}
-use Rattle.abc_expressions.specs.Splitting.{is_end, IsEndAt, Cuts, glued, flushed}
+use Rattle.abc_expressions.specs.inner.Machine.{Splitting, conversion_from, before_parts, converted, at_backquote, split}
+use Rattle.abc_expressions.specs.inner.Splitting.{is_end, IsEndAt, Cuts, glued, flushed}
 use Rattle.abc_expressions.specs.Texts.{with_character}
 use Rattle.abc_expressions.proofs.TextParts.{split_skip, by_table}
 

@@ -8,7 +8,7 @@ use Rattle.abc_tokens.specs.Bytes.{backquote, begins}
 use Rattle.abc_expressions.specs.declared.texts.Part.{Part}
 use Rattle.abc_expressions.specs.declared.texts.Part.TheVariants as part
 use Rattle.abc_expressions.specs.Texts.{with_character, AreBare, IsConversion, Splits, closing, doubled_quote, doubled_backquote, character, conversion}
-use Rattle.abc_expressions.specs.Machine.{Splitting, has_bare, conversion_from, before_parts, converted, at_quote, at_backquote, split}
+use Rattle.abc_expressions.specs.inner.Machine.{Splitting, has_bare, conversion_from, before_parts, converted, at_quote, at_backquote, split}
 use Rattle.abc_tokens.proofs.Faults.{OneReading}
 use Rattle.abc_expressions.proofs.Leaves.{bare_found, bare_told}
 

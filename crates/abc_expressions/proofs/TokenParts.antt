@@ -14,7 +14,7 @@ use Rattle.abc_tokens.proofs.Faults.{OneReading, no_tokens}
 use Rattle.abc_tokens.proofs.Placed.{placed_line}
 use Rattle.abc_expressions.specs.declared.lexemes.Lexeme.{Lexeme}
 use Rattle.abc_expressions.specs.Lexemes.{seen, lexeme_of, ArePart, IsWithin, IsSpelled}
-use Rattle.abc_expressions.specs.Machine.{has_bare, lexed}
+use Rattle.abc_expressions.specs.inner.Machine.{has_bare, lexed}
 use Rattle.abc_expressions.proofs.Leaves.{bare_told, lexed_told}
 
 spelled_as : (k : TokenKind) (bytes : List ℕ) → (k ≡ kind.Number → IsNumberToken bytes) → IsSpelled (lexeme_of k bytes)

@@ -5,7 +5,7 @@ ghost use Rattle.abc_tree.specs.Height.{height};
 ghost use Rattle.abc_tree.specs.Regular.{is_address, every};
 ghost use Rattle.abc_tree.specs.declared.formulas.Expr.{Expr};
 ghost use Rattle.abc_expressions.specs.Addresses.{SpelledAddress, names_of_address};
-ghost use Rattle.abc_expressions.specs.AddressSteps.{depth_behind, depth_by, names_behind};
+ghost use Rattle.abc_expressions.specs.inner.AddressSteps.{depth_behind, depth_by, names_behind};
 ghost use Rattle.abc_expressions.specs.Lexemes.{seen, ArePart};
 
 use crate::FormulaFault;

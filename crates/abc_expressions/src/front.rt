@@ -2,8 +2,8 @@
 ghost use Rattle.std.specs.Prelude.{◌≡◌, ◌≤◌, ℕ, [], All};
 ghost use Rattle.abc_expressions.specs.Fronts.{IsFront, IsWholeFront, FindsOnly};
 ghost use Rattle.abc_expressions.specs.Lexemes.{IsSpelled};
-ghost use Rattle.abc_expressions.specs.Machine.{reader, tree_at};
-ghost use Rattle.abc_expressions.specs.Steps.{group_opens, Finds};
+ghost use Rattle.abc_expressions.specs.inner.Machine.{reader, tree_at};
+ghost use Rattle.abc_expressions.specs.inner.Steps.{group_opens, Finds};
 ghost use Rattle.abc_expressions.specs.declared.frames.Group.TheVariants as grp;
 
 use crate::fault::FormulaFault;

@@ -2,7 +2,7 @@
 ghost use Rattle.std.specs.Prelude.{◌<◌, ◌+◌, ◌↔◌, IsTrue, map};
 ghost use Rattle.abc_tree.specs.Height.{height, above};
 ghost use Rattle.abc_tree.specs.Lists.{flat};
-ghost use Rattle.abc_expressions.specs.Heights.{fill_height, piece_height, pair_height};
+ghost use Rattle.abc_expressions.specs.inner.Heights.{fill_height, piece_height, pair_height};
 
 use abc_tree::{Expr, Fill, Pair, Piece};
 

@@ -3,7 +3,7 @@ ghost use Rattle.std.specs.Prelude.{◌≡◌, ◌==◌, map, All, IfOk, IfSome,
 ghost use Rattle.std.specs.List.{list_all};
 ghost use Rattle.abc_tokens.specs.Bytes.{space};
 ghost use Rattle.abc_expressions.specs.Lexemes.{seen, IsWithin, IsSpelled};
-ghost use Rattle.abc_expressions.specs.Machine.{has_bare, lexed};
+ghost use Rattle.abc_expressions.specs.inner.Machine.{has_bare, lexed};
 ghost use Rattle.abc_expressions.specs.Texts.{end_of, is_bare};
 
 use crate::signs::{Sign, sign_by};

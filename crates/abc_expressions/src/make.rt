@@ -2,7 +2,7 @@
 ghost use Rattle.std.specs.Prelude.{◌≡◌, ◌++◌, ◌∷◌, [], IfOk};
 ghost use Rattle.abc_expressions.specs.Operators.{nullary, unary, binary, joined1, joined2};
 ghost use Rattle.abc_expressions.specs.Grammar.{compound, paired};
-ghost use Rattle.abc_expressions.specs.Machine.{settled, wholly};
+ghost use Rattle.abc_expressions.specs.inner.Machine.{settled, wholly};
 ghost use Rattle.abc_expressions.specs.declared.frames.Group.TheVariants as grp;
 
 use crate::frames::{Group, Join, Settled};

@@ -1,7 +1,7 @@
 //! What a token is, by the names that are own and those that are predefined.
 ghost use Rattle.std.specs.Prelude.{◌≡◌, ◌<◌, ◌+◌, IfOk};
 ghost use Rattle.abc_expressions.specs.Operators.{given, kind_of, may_begin, begins, sign_infix, infix_by, infix_of};
-ghost use Rattle.abc_expressions.specs.Machine.{role_of, sign_operand, leaf_operand, operand, reach, goes_on, sign_of};
+ghost use Rattle.abc_expressions.specs.inner.Machine.{role_of, sign_operand, leaf_operand, operand, reach, goes_on, sign_of};
 
 use crate::frames::{Infix, Join, Kind, Operand, Reach};
 use crate::lexemes::Lexeme;
@@ -202,7 +202,7 @@ fn infix_of(alloc: Global, own: &Names, token: &Lexeme) -> Result<Option<Infix>,
 }
 
 /// How the token goes on behind an operand.
-#[tactic(auto, unfolding(crate::specs::Machine::reach))]
+#[tactic(auto, unfolding(crate::specs::inner::Machine::reach))]
 pub(crate) fn reach(alloc: Global, own: &Names, token: &Lexeme) -> Result<Reach, OutOfMemory>
     ensures { IfOk result (λ x. x ≡ reach own.now token.now) }
 {

@@ -1,7 +1,7 @@
 //! Reading tokens: a loop over them, with a stack of what waits for its last operand.
 ghost use Rattle.std.specs.Prelude.{◌≡◌, ◌+◌, ◌<◌, ◌≤◌, [], ◌∷◌, List, suc};
-ghost use Rattle.abc_expressions.specs.Machine.{opened, displayed, wanted, taken, settled, settles, at_pair, at_colon, finished, whole_found, wholly};
-ghost use Rattle.abc_expressions.specs.Steps.{Steps, behind, opens, Counts, Gives};
+ghost use Rattle.abc_expressions.specs.inner.Machine.{opened, displayed, wanted, taken, settled, settles, at_pair, at_colon, finished, whole_found, wholly};
+ghost use Rattle.abc_expressions.specs.inner.Steps.{Steps, behind, opens, Counts, Gives};
 ghost use Rattle.abc_expressions.specs.declared.frames.Frame.TheVariants.{Inside};
 ghost use Rattle.abc_expressions.specs.declared.lexemes.Lexeme.{Lexeme};
 ghost use Rattle.std.specs.Prelude.{None};

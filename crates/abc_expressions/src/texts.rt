@@ -2,8 +2,8 @@
 ghost use Rattle.std.specs.Prelude.{◌≡◌, ◌≢◌, ◌∷◌, ◌++◌, List, ◌==◌, IfOk};
 ghost use Rattle.abc_tokens.specs.Bytes.{backquote, begins};
 ghost use Rattle.abc_expressions.specs.declared.texts.Part.{Part};
-ghost use Rattle.abc_expressions.specs.Machine.{split, split_text};
-ghost use Rattle.abc_expressions.specs.Splitting.{IsEndAt, is_end, Cuts, with_found, all_parts, flushed};
+ghost use Rattle.abc_expressions.specs.inner.Machine.{split, split_text};
+ghost use Rattle.abc_expressions.specs.inner.Splitting.{IsEndAt, is_end, Cuts, with_found, all_parts, flushed};
 
 use crate::lexemes::has_bare;
 use abc_num::{Items, OutOfMemory, Text};

@@ -5,8 +5,8 @@ ghost use Rattle.abc_tree.specs.Height.{height};
 ghost use Rattle.abc_tree.specs.declared.formulas.Expr.{Expr};
 ghost use Rattle.abc_expressions.specs.Grammar.{Spelled};
 ghost use Rattle.abc_expressions.specs.Lexemes.{seen, ArePart};
-ghost use Rattle.abc_expressions.specs.Machine.{alone, reader, tree_of};
-ghost use Rattle.abc_expressions.specs.Steps.{Answers};
+ghost use Rattle.abc_expressions.specs.inner.Machine.{alone, reader, tree_of};
+ghost use Rattle.abc_expressions.specs.inner.Steps.{Answers};
 ghost use Rattle.abc_expressions.specs.declared.frames.Group.TheVariants as grp;
 
 use crate::FormulaFault;

@@ -7,10 +7,10 @@ use Rattle.abc_expressions.specs.declared.fault.FormulaFault.{FormulaFault}
 use Rattle.abc_expressions.specs.declared.fault.FormulaFault.TheVariants as fault
 use Rattle.abc_expressions.specs.declared.lexemes.Lexeme.{Lexeme}
 use Rattle.abc_expressions.specs.declared.signs.Sign.{Sign}
-use Rattle.abc_expressions.specs.Machine.{sign_of}
+use Rattle.abc_expressions.specs.inner.Machine.{sign_of}
 use Rattle.abc_formula.specs.TestGrammar.{is_keyword}
-use Rattle.abc_formula.specs.TestMachine.{FoundNames, Groups, Naming, at_name, behind_name, names_end, names_in}
-use Rattle.abc_formula.specs.TestSteps.{Fewer, NameSteps, FindsNames}
+use Rattle.abc_formula.specs.inner.TestMachine.{FoundNames, Groups, Naming, at_name, behind_name, names_end, names_in}
+use Rattle.abc_formula.specs.inner.TestSteps.{Fewer, NameSteps, FindsNames}
 
 module _ (own : List (List ℕ)) (ahead rest : List Lexeme) (token : Lexeme) (d : ℕ) (groups : Groups) (wants : Bool) (found : FoundNames)
     (same : names_in own ahead d groups wants ≡ found) (split : ahead ≡ token ∷ rest) where

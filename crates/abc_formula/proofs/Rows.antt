@@ -11,10 +11,10 @@ use Rattle.abc_expressions.specs.declared.lexemes.Lexeme.{Lexeme}
 use Rattle.abc_formula.specs.declared.test_frames.Place.TheVariants as place
 use Rattle.abc_expressions.specs.Grammar.{own_name}
 use Rattle.abc_expressions.specs.Operators.{kind_of}
-use Rattle.abc_expressions.specs.Numbers.{number_at, gcd_within, gcd, ratio}
-use Rattle.abc_expressions.specs.Machine.{converter, reader, run, popped, finished, reach, lexed, has_bare, conversion_from, split}
+use Rattle.abc_expressions.specs.inner.Numbers.{number_at, gcd_within, gcd, ratio}
+use Rattle.abc_expressions.specs.inner.Machine.{converter, reader, run, popped, finished, reach, lexed, has_bare, conversion_from, split}
 use Rattle.abc_formula.specs.TestGrammar.{link}
-use Rattle.abc_formula.specs.TestMachine.{links_in, test_alone, test_in}
+use Rattle.abc_formula.specs.inner.TestMachine.{links_in, test_alone, test_in}
 
 abbrev whole : ℕ → Expr
 whole n = e.Number (fraction (pos n) 1)

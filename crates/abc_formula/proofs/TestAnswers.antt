@@ -6,11 +6,11 @@ use Rattle.abc_expressions.specs.declared.fault.FormulaFault.{FormulaFault}
 use Rattle.abc_expressions.specs.declared.fault.FormulaFault.TheVariants as fault
 use Rattle.abc_expressions.specs.declared.lexemes.Lexeme.{Lexeme}
 use Rattle.abc_formula.specs.declared.test_frames.Place.TheVariants as place
-use Rattle.abc_expressions.specs.Machine.{reader}
+use Rattle.abc_expressions.specs.inner.Machine.{reader}
 use Rattle.abc_tokens.proofs.Faults.{OneReading}
 use Rattle.abc_formula.specs.TestGrammar.{Tests}
-use Rattle.abc_formula.specs.TestMachine.{FoundTest, test_alone, test_in}
-use Rattle.abc_formula.specs.TestSteps.{AnswersTest}
+use Rattle.abc_formula.specs.inner.TestMachine.{FoundTest, test_alone, test_in}
+use Rattle.abc_formula.specs.inner.TestSteps.{AnswersTest}
 use Rattle.abc_formula.proofs.TestComplete.{complete_test}
 use Rattle.abc_formula.proofs.TestSound.{reads_test}
 

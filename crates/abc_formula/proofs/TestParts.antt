@@ -22,10 +22,10 @@ use Rattle.abc_formula.specs.declared.test_frames.Front.TheVariants as front
 use Rattle.abc_expressions.specs.Lexemes.{IsSpelled}
 use Rattle.abc_expressions.specs.Operators.{lead}
 use Rattle.abc_expressions.specs.Grammar.{Spells, number, text, name, call, before, between, select, round, empty, list, table, Parts, one, more, Filler, single, range, Fills, one_fill, more_fills, Entry, entry, Pairs, one_pair, more_pairs}
-use Rattle.abc_expressions.specs.Machine.{Leaves, reader, reach, within, taken, popped, finished, run}
+use Rattle.abc_expressions.specs.inner.Machine.{Leaves, reader, reach, within, taken, popped, finished, run}
 use Rattle.abc_tokens.proofs.Faults.{OneReading}
 use Rattle.abc_formula.specs.TestGrammar.{is_keyword, relation_of, relation_by}
-use Rattle.abc_formula.specs.TestMachine.{expression_of, front_of}
+use Rattle.abc_formula.specs.inner.TestMachine.{expression_of, front_of}
 use Rattle.abc_expressions.proofs.Levels.{grasp, Follows}
 use Rattle.abc_expressions.proofs.Complete.{complete}
 

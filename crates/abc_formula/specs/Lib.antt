@@ -1,4 +1,3 @@
 -- What tests are.
+pub mod inner
 pub mod TestGrammar
-pub mod TestMachine
-pub mod TestSteps

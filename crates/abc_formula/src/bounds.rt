@@ -2,8 +2,8 @@
 ghost use Rattle.std.specs.Prelude.{◌≡◌, ◌+◌, ◌≤◌, ◌∷◌, [], ◌++◌, true, length, All, IfOk, OnOk, OnErr, MatchOption};
 ghost use Rattle.abc_expressions.specs.declared.signs.Sign.TheVariants.{Open, Close};
 ghost use Rattle.abc_formula.specs.TestGrammar.{gathered};
-ghost use Rattle.abc_formula.specs.TestMachine.{at_name, at_names_sign, behind_name, names_end, names_in, name_read};
-ghost use Rattle.abc_formula.specs.TestSteps.{Fewer, NameSteps, NameCounts, FindsNames};
+ghost use Rattle.abc_formula.specs.inner.TestMachine.{at_name, at_names_sign, behind_name, names_end, names_in, name_read};
+ghost use Rattle.abc_formula.specs.inner.TestSteps.{Fewer, NameSteps, NameCounts, FindsNames};
 ghost use Rattle.abc_expressions.specs.Lexemes.{IsSpelled};
 
 use crate::test_names::is_keyword;

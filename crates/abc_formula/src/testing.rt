@@ -2,11 +2,11 @@
 ghost use Rattle.std.specs.Prelude.{◌≡◌, ℕ, suc, ◌<◌, ◌≤◌, ◌++◌, ◌∷◌, [], All, IfOk, IfErr, IfSome, length};
 ghost use Rattle.std.specs.Option.{option_map};
 ghost use Rattle.abc_expressions.specs.Lexemes.{IsSpelled};
-ghost use Rattle.abc_expressions.specs.Machine.{reader};
+ghost use Rattle.abc_expressions.specs.inner.Machine.{reader};
 ghost use Rattle.abc_formula.specs.TestGrammar.{takes_and, takes_or};
-ghost use Rattle.abc_formula.specs.TestMachine.{Reads, expression_of, joined, quantifies, links_in, lone, part_of, tight, rounded, from_front, front_of, behind_of, rest_of, from_keyword, test_in};
-ghost use Rattle.abc_formula.specs.TestSteps.{Fewer, FindsLinks, FindsTest, behind_close, Advances, AdvanceRest, NoMore, Begins};
-ghost use Rattle.abc_expressions.specs.Steps.{Finds};
+ghost use Rattle.abc_formula.specs.inner.TestMachine.{Reads, expression_of, joined, quantifies, links_in, lone, part_of, tight, rounded, from_front, front_of, behind_of, rest_of, from_keyword, test_in};
+ghost use Rattle.abc_formula.specs.inner.TestSteps.{Fewer, FindsLinks, FindsTest, behind_close, Advances, AdvanceRest, NoMore, Begins};
+ghost use Rattle.abc_expressions.specs.inner.Steps.{Finds};
 ghost use Rattle.abc_formula.specs.declared.test_frames.Place.TheVariants.{Whole};
 
 use crate::bounds::names_in;

@@ -4,10 +4,10 @@ ghost use Rattle.abc_num.specs.declared.limits.TheConstants.{MOST_BRACKETS, MOST
 ghost use Rattle.abc_tree.specs.Height.{test_height};
 ghost use Rattle.abc_tree.specs.declared.formulas.Test.{Test};
 ghost use Rattle.abc_expressions.specs.Lexemes.{seen, ArePart};
-ghost use Rattle.abc_expressions.specs.Machine.{reader};
+ghost use Rattle.abc_expressions.specs.inner.Machine.{reader};
 ghost use Rattle.abc_formula.specs.TestGrammar.{Tests};
-ghost use Rattle.abc_formula.specs.TestMachine.{test_alone, test_in};
-ghost use Rattle.abc_formula.specs.TestSteps.{AnswersTest};
+ghost use Rattle.abc_formula.specs.inner.TestMachine.{test_alone, test_in};
+ghost use Rattle.abc_formula.specs.inner.TestSteps.{AnswersTest};
 ghost use Rattle.abc_formula.specs.declared.test_frames.Place.TheVariants.{Whole};
 
 use crate::test_height::is_test_higher;

@@ -1,6 +1,6 @@
 //! The test that waiting frames make of the one behind them.
 ghost use Rattle.std.specs.Prelude.{◌≡◌, IfOk};
-ghost use Rattle.abc_formula.specs.TestSteps.{fold_test, wrapped_by};
+ghost use Rattle.abc_formula.specs.inner.TestSteps.{fold_test, wrapped_by};
 ghost use Rattle.abc_tree.specs.declared.formulas.Test.TheVariants.{And, Or};
 
 use crate::test_frames::TestFrame;

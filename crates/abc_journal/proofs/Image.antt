@@ -9,7 +9,7 @@ use Rattle.abc_journal.specs.declared.layout.Live.{Live}
 use Rattle.abc_journal.specs.Image.{Region, Opened, opened_at, with_live, with_region, live_slot, follow, read_image, fresh_image, settled_image, opened, payloads_in, layout_in, payloads_of, layout_of}
 use Rattle.abc_journal.specs.declared.faults.BeginFault.{BeginFault}
 use Rattle.abc_journal.specs.declared.faults.BeginFault.TheVariants.{NotAStore, StoreFault, Memory}
-use Rattle.abc_journal.specs.Region.{IsRegion}
+use Rattle.abc_journal.specs.inner.Region.{IsRegion}
 use Rattle.abc_journal.specs.Journal.{HasLayout, IfNotAStore}
 use Rattle.abc_journal.proofs.Follow.{result_cases, ok_is, no_err, Follows, IsRecord, from_behind_head, reach, then_record, to_closed, found, same_byte, same_region}
 

@@ -1,6 +1,6 @@
 -- What an image of a store opens to, and what a journal knows of it.
 pub mod Image
 pub mod Format
+pub mod inner
 pub mod Journal
-pub mod Region
 pub mod View

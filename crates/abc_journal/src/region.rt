@@ -1,7 +1,7 @@
 //! Reading the head and a region from bytes.
 ghost use Rattle.std.specs.Prelude.{◌≡◌, ◌≤◌, ◌<◌, ◌+◌, ◌^◌, List, ℕ, length, drop, Ok, Err, IsErrOf};
 ghost use Rattle.abc_journal.specs.Image.{follow, word_at as word_of, slot_at as slot_of, live_slot as live_of};
-ghost use Rattle.abc_journal.specs.Region.{Stands, IsRegion};
+ghost use Rattle.abc_journal.specs.inner.Region.{Stands, IsRegion};
 
 use crate::BeginFault;
 use crate::format::{FIRST_SLOT, HEAD_BYTES, MAGIC, OPEN, RECORD_EXTRA, SECOND_SLOT};

@@ -16,7 +16,7 @@ use Rattle.abc_predef.specs.Rows.{row_of_one}
 use Rattle.abc_predef.specs.declared.extremes.Extreme.{Extreme}
 use Rattle.abc_predef.specs.declared.extremes.Extreme.TheVariants.{Least, Greatest}
 use Rattle.abc_predef.specs.Trains.{better, best_with, best_of, extreme_element}
-use Rattle.abc_predef.specs.Places.{element_at, better_with, is_wanted, IsPlaceOfBest}
+use Rattle.abc_predef.specs.inner.Places.{element_at, better_with, is_wanted, IsPlaceOfBest}
 
 with_more : (end : Extreme) (y : Tree) (xs : List Tree) (x : Tree) → best_with end y (xs ++ x ∷ []) ≡ better end (best_with end y xs) x
 with_more end y [] x = refl

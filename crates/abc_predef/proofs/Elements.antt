@@ -11,7 +11,7 @@ use Rattle.abc_value.specs.declared.faults.ValueFault.TheVariants.{OutOfRange}
 use Rattle.abc_value.specs.Items.{IsTrain, IsAnswer, elements_of, item_of}
 use Rattle.abc_value.specs.Items as items
 use Rattle.abc_value.proofs.Rows.{trees_listed}
-use Rattle.abc_predef.specs.Places.{element_at}
+use Rattle.abc_predef.specs.inner.Places.{element_at}
 use Rattle.abc_predef.proofs.Codes.{nothing_left}
 
 part_there : (xs : List Tree) (i : ℕ) → i < length xs → slice_get xs i ≡ None → ⊥

@@ -15,7 +15,7 @@ use Rattle.abc_value.proofs.Placing.{less_before, at_most, regular_at, rising}
 use Rattle.abc_predef.specs.declared.trains.Side.{Side}
 use Rattle.abc_predef.specs.declared.trains.Side.TheVariants.{Below, UpTo}
 use Rattle.abc_value.specs.Items.{elements_of}
-use Rattle.abc_predef.specs.Places.{element_at, is_on}
+use Rattle.abc_predef.specs.inner.Places.{element_at, is_on}
 
 -- what stands below low is on the side, and what stands from high on is not
 pub record Between (side : Side) (e : Tree) (xs : List Tree) (low high : ℕ) : Type 0 where

@@ -13,7 +13,7 @@ use Rattle.abc_predef.specs.declared.table.Letter.{Letter}
 use Rattle.abc_predef.specs.declared.table.Letter.TheVariants as letter
 use Rattle.abc_predef.specs.declared.table.Operands.TheVariants.{One, Two}
 use Rattle.abc_predef.specs.Takes.{IsNumeric, IsOf, AreTaken, GivesValue, IsTest}
-use Rattle.abc_predef.specs.Places.{IsLike}
+use Rattle.abc_predef.specs.inner.Places.{IsLike}
 use Rattle.abc_predef.specs.Signatures.{operands}
 use Rattle.abc_predef.proofs.Signatures.{value_operands, test_operands}
 

@@ -12,7 +12,7 @@ use Rattle.abc_value.proofs.Itemised.{only_memory}
 use Rattle.std.proofs.lemmas.List.Sums.{prefix_len-le-length}
 use Rattle.abc_value.proofs.Characters.{characters-drop}
 use Rattle.abc_predef.specs.Texts.{is_space, has_characters, words_of, numbered}
-use Rattle.abc_predef.specs.Places.{with_word}
+use Rattle.abc_predef.specs.inner.Places.{with_word}
 use Rattle.abc_predef.proofs.Words.{spent, words_step, with_next, next_is, next_spent, next_full, words_small}
 
 -- words are those in front of the rest

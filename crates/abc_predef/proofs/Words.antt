@@ -23,7 +23,7 @@ use Rattle.abc_value.specs.Changes.{with_pair}
 use Rattle.abc_value.proofs.Adding.{no_fault}
 use Rattle.abc_value.proofs.Rows.{pairs_of_table, count_pairs_pairs}
 use Rattle.abc_predef.specs.Texts.{is_space, has_characters, words_of, numbered}
-use Rattle.abc_predef.specs.Places.{with_word}
+use Rattle.abc_predef.specs.inner.Places.{with_word}
 
 no_space : (b : List ℕ) → length b ≤ position_or_len is_space b → slice_split is_space b ≡ b ∷ []
 no_space b l = slice_split_none is_space b (λ k d h. fails_before_first is_space b k d (omega arith))

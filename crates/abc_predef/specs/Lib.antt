@@ -1,10 +1,10 @@
 pub mod Aligned
 pub mod Answers
 pub mod Characters
+pub mod inner
 pub mod Numbers
 pub mod Operations
 pub mod Order
-pub mod Places
 pub mod Rows
 pub mod ResultTypes
 pub mod Signatures

@@ -6,7 +6,7 @@ ghost use Rattle.abc_value.specs.Parts.{IsTable, IsText, keys_of, codes_of};
 ghost use Rattle.abc_value.specs.Regular.{AreCharacters};
 ghost use Rattle.abc_value.specs.Items.{IsAnswer};
 ghost use Rattle.abc_predef.specs.Texts.{split_of};
-ghost use Rattle.abc_predef.specs.Places.{with_word};
+ghost use Rattle.abc_predef.specs.inner.Places.{with_word};
 
 use crate::characters::word_len;
 use crate::numbers::place_number;

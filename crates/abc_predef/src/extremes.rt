@@ -5,7 +5,7 @@ ghost use Rattle.std.specs.List.{filter};
 ghost use Rattle.abc_value.specs.Tree.{Tree};
 ghost use Rattle.abc_value.specs.Items.{IsAnswer, IsTrain, elements_of};
 ghost use Rattle.abc_predef.specs.Trains.{is_better, best_of};
-ghost use Rattle.abc_predef.specs.Places.{IsLike, IsPlaceOfBest, element_at, is_wanted, better_with};
+ghost use Rattle.abc_predef.specs.inner.Places.{IsLike, IsPlaceOfBest, element_at, is_wanted, better_with};
 
 use crate::trains::{element, order_at, order_between};
 use abc_value::{Value, ValueFault};

@@ -6,7 +6,7 @@ ghost use Rattle.abc_value.specs.Order.{order};
 ghost use Rattle.abc_value.specs.Parts.{IsText, IsList};
 ghost use Rattle.abc_value.specs.Items.{IsAnswer, IsTrain, elements_of};
 ghost use Rattle.abc_predef.specs.Trains.{count_of, is_in};
-ghost use Rattle.abc_predef.specs.Places.{IsLike, element_at, is_on};
+ghost use Rattle.abc_predef.specs.inner.Places.{IsLike, element_at, is_on};
 
 use crate::numbers::place_number;
 use abc_value::{Kind, Value, ValueFault};

@@ -18,7 +18,7 @@ use Rattle.abc_value.proofs.Rows.{listed_trees, count_trees, count_pairs_pairs, 
 use Rattle.abc_print.specs.declared.frames.Pair.{Pair}
 use Rattle.abc_print.specs.declared.faults.LiteralFault.{LiteralFault}
 use Rattle.abc_print.specs.Literals.{by_fault, if_small, in_order, listed, with_new, placed, tabled}
-use Rattle.abc_print.specs.Machine.{Gives, refusal}
+use Rattle.abc_print.specs.inner.Machine.{Gives, refusal}
 
 -- elements that are put in front of those in order
 abbrev pub onto : List Tree → List Tree → List Tree

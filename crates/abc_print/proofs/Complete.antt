@@ -11,7 +11,7 @@ use Rattle.abc_print.specs.declared.frames.Frame.TheVariants as f
 use Rattle.abc_print.specs.declared.frames.Turn.{Turn}
 use Rattle.abc_print.specs.declared.frames.Turn.TheVariants as turn
 use Rattle.abc_print.specs.Literals.{fielded, listed, tabled, sign, IsPart, value, enclosed, nothing, elements, associations, AreParts, one, more, ArePairs, one_pair, more_pairs, IsLiteral}
-use Rattle.abc_print.specs.Machine.{given, pair_of, run, value_of}
+use Rattle.abc_print.specs.inner.Machine.{given, pair_of, run, value_of}
 
 -- the sign between parts goes on in a frame
 abbrev GoesOn : Mark → (List Tree → Frame) → List Frame → Type 0

@@ -6,7 +6,7 @@ use Rattle.abc_value.specs.Regular.{IsCharacter, AreCharacters}
 use Rattle.abc_value.proofs.Itemised.{characters_at}
 use Rattle.abc_tokens.specs.Bytes.{backquote}
 use Rattle.abc_print.specs.Lexemes.{before, content}
-use Rattle.abc_print.specs.Lexing.{width}
+use Rattle.abc_print.specs.inner.Lexing.{width}
 
 -- characters before those that are found
 abbrev pub behind : List ℕ → Option (List ℕ) → Option (List ℕ)

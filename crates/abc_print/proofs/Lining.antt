@@ -13,7 +13,7 @@ use Rattle.abc_print.specs.declared.frames.Lexeme.TheVariants as lexeme
 use Rattle.abc_print.specs.declared.lexing.State.{State}
 use Rattle.abc_print.specs.declared.lexing.State.TheVariants as state
 use Rattle.abc_print.specs.Lexemes.{Seen, seen, class_of}
-use Rattle.abc_print.specs.Lexing.{lexed, Rest, RestBy, ReadsToken}
+use Rattle.abc_print.specs.inner.Lexing.{lexed, Rest, RestBy, ReadsToken}
 
 -- what is left to read decides what the lexemes of all are
 abbrev pub IsAt : List Seen → List Lexeme → List Seen → State → Type 0

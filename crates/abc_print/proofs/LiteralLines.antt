@@ -11,8 +11,8 @@ use Rattle.abc_print.specs.declared.faults.LiteralFault.TheVariants as fault
 use Rattle.abc_print.specs.declared.frames.Lexeme.{Lexeme}
 use Rattle.abc_print.specs.declared.lexing.State.TheVariants as state
 use Rattle.abc_print.specs.Lexemes.{seen, HasLexemes, IsLiteralLine}
-use Rattle.abc_print.specs.Lexing.{lexed}
-use Rattle.abc_print.specs.Machine.{Gives, value_of, unread}
+use Rattle.abc_print.specs.inner.Lexing.{lexed}
+use Rattle.abc_print.specs.inner.Machine.{Gives, value_of, unread}
 use Rattle.abc_print.proofs.Complete.{complete}
 use Rattle.abc_print.proofs.Sound.{sound}
 use Rattle.abc_print.proofs.Words.{to_lexed, are_lexemes}

@@ -11,8 +11,8 @@ use Rattle.abc_print.specs.declared.lexing.Class.TheVariants as class
 use Rattle.abc_print.specs.declared.lexing.State.{State}
 use Rattle.abc_print.specs.declared.lexing.State.TheVariants as state
 use Rattle.abc_print.specs.Lexemes.{Seen, seen, class_of, IsValueOf, with_sign, HasLexemes, IsLiteralLine}
-use Rattle.abc_print.specs.Lexing.{Then, text_then, number_then, starts, divides, numbered, at_token, lexed}
-use Rattle.abc_print.specs.Machine.{value_of}
+use Rattle.abc_print.specs.inner.Lexing.{Then, text_then, number_then, starts, divides, numbered, at_token, lexed}
+use Rattle.abc_print.specs.inner.Machine.{value_of}
 use Rattle.abc_print.proofs.Complete.{complete}
 use Rattle.std.proofs.lemmas.Option.{same_Some}
 use Rattle.abc_print.proofs.Tokenwise.{one_value, one_quotient}

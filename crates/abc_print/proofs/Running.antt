@@ -8,7 +8,7 @@ use Rattle.abc_print.specs.declared.frames.Lexeme.{Lexeme}
 use Rattle.abc_print.specs.declared.frames.Frame.{Frame}
 use Rattle.abc_print.specs.declared.frames.Turn.{Turn}
 use Rattle.abc_print.specs.declared.frames.Turn.TheVariants as turn
-use Rattle.abc_print.specs.Machine.{Steps, Gives, at_lexeme, at_end, run}
+use Rattle.abc_print.specs.inner.Machine.{Steps, Gives, at_lexeme, at_end, run}
 
 pub goes_on : (now rest : List Lexeme) (l : Lexeme) (stack new : List Frame) (at then : Turn) (found : Option Tree) → run now stack at ≡ found → now ≡ l ∷ rest
     → Steps (λ next. at_lexeme l next stack at) (Ok then) new → run rest new then ≡ found

@@ -12,7 +12,7 @@ use Rattle.abc_print.specs.declared.frames.Frame.TheVariants as f
 use Rattle.abc_print.specs.declared.frames.Turn.{Turn}
 use Rattle.abc_print.specs.declared.frames.Turn.TheVariants as turn
 use Rattle.abc_print.specs.Literals.{fielded, listed, tabled, sign, IsPart, value, enclosed, nothing, elements, associations, AreParts, one, more, ArePairs, one_pair, more_pairs, IsLiteral}
-use Rattle.abc_print.specs.Machine.{given, pair_of, run, value_of, emptied, first_key, later_key, at_part, at_bracket, at_colon, with_field, with_entry, closed, unbracketed, unbraced, behind, at_mark, finished}
+use Rattle.abc_print.specs.inner.Machine.{given, pair_of, run, value_of, emptied, first_key, later_key, at_part, at_bracket, at_colon, with_field, with_entry, closed, unbracketed, unbraced, behind, at_mark, finished}
 
 -- the parts were read from us on, and what is read as parts from ts on comes behind them
 record Sofar (m : Mark) (parts : List Tree) (us ts : List Lexeme) : Type 0 where

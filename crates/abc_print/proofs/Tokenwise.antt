@@ -23,7 +23,7 @@ use Rattle.abc_print.specs.declared.lexing.Class.TheVariants as class
 use Rattle.abc_print.specs.declared.lexing.State.{State}
 use Rattle.abc_print.specs.declared.lexing.State.TheVariants as state
 use Rattle.abc_print.specs.Lexemes.{Seen, IsValueOf, with_sign}
-use Rattle.abc_print.specs.Lexing.{Then, at_token, lexed, RestBy, Reads, GivesNumber, GivesQuotient, starts, numbered, divides}
+use Rattle.abc_print.specs.inner.Lexing.{Then, at_token, lexed, RestBy, Reads, GivesNumber, GivesQuotient, starts, numbered, divides}
 
 pub one_value : (b : List ℕ) (x y : Fraction) → IsValueOf b x → IsValueOf b y → x ≡ y
 one_value b x y h k =

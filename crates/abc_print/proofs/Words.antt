@@ -9,7 +9,7 @@ use Rattle.abc_print.specs.declared.lexing.Class.TheVariants as class
 use Rattle.abc_print.specs.declared.lexing.State.{State}
 use Rattle.abc_print.specs.declared.lexing.State.TheVariants as state
 use Rattle.abc_print.specs.Lexemes.{Seen, class_of, IsClass, with_sign, IsSigned, unsigned, positive, negative, whole, divided, HasLexemes, none, numeral, quoted, sign}
-use Rattle.abc_print.specs.Lexing.{Then, at_token, starts, text_then, number_then, numbered, divides, lexed}
+use Rattle.abc_print.specs.inner.Lexing.{Then, at_token, starts, text_then, number_then, numbered, divides, lexed}
 
 -- a step at a token whose class is known
 at_class : (t : Seen) (ts : List Seen) (s : State) (ls : List Lexeme) (c : Class) → IsClass t c → at_token c t.1 (lexed ts) s ls → lexed (t ∷ ts) s ls

@@ -1,5 +1,4 @@
+pub mod inner
 pub mod Laws
 pub mod Lexemes
-pub mod Lexing
 pub mod Literals
-pub mod Machine

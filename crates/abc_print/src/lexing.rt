@@ -7,7 +7,7 @@ ghost use Rattle.abc_value.specs.Regular.{AreCharacters};
 ghost use Rattle.abc_tokens.specs.Shape.{IsPlaced};
 ghost use Rattle.abc_print.specs.declared.frames.Lexeme.{Lexeme};
 ghost use Rattle.abc_print.specs.Lexemes.{class_of, signs_class, sign_class, content, with_sign, seen};
-ghost use Rattle.abc_print.specs.Lexing.{Reads, ReadsToken, lexed, GivesNumber, GivesQuotient, width};
+ghost use Rattle.abc_print.specs.inner.Lexing.{Reads, ReadsToken, lexed, GivesNumber, GivesQuotient, width};
 
 use crate::LiteralFault;
 use crate::frames::{Lexeme, Mark};

@@ -1,7 +1,7 @@
 //! Values from the parts of a literal.
 ghost use Rattle.std.specs.Prelude.{◌≡◌, [], ◌∷◌, ◌++◌};
 ghost use Rattle.abc_print.specs.Literals.{fielded, listed, tabled};
-ghost use Rattle.abc_print.specs.Machine.{Gives, refusal, pair_of};
+ghost use Rattle.abc_print.specs.inner.Machine.{Gives, refusal, pair_of};
 
 use crate::LiteralFault;
 use crate::frames::Pair;

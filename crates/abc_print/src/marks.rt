@@ -1,5 +1,5 @@
 //! Signs where they stand in a literal.
-ghost use Rattle.abc_print.specs.Machine.{Steps, emptied, first_key, later_key, at_part, at_bracket, at_colon, with_field, with_entry, closed, unbracketed, unbraced, behind, at_mark};
+ghost use Rattle.abc_print.specs.inner.Machine.{Steps, emptied, first_key, later_key, at_part, at_bracket, at_colon, with_field, with_entry, closed, unbracketed, unbraced, behind, at_mark};
 
 use crate::LiteralFault;
 use crate::frames::{Frame, Mark, Pair, Turn};

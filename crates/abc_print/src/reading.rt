@@ -2,7 +2,7 @@
 ghost use Rattle.std.specs.Prelude.{◌≡◌, ◌≤◌, length, IfOk, IfErr, ◌↔◌};
 ghost use Rattle.abc_value.specs.Tree.{Tree};
 ghost use Rattle.abc_print.specs.Lexemes.{IsLiteralLine};
-ghost use Rattle.abc_print.specs.Machine.{Steps, Gives, unread, at_value, at_lexeme, finished, value_of};
+ghost use Rattle.abc_print.specs.inner.Machine.{Steps, Gives, unread, at_value, at_lexeme, finished, value_of};
 
 use crate::LiteralFault;
 use crate::frames::{Frame, Lexeme, Turn};

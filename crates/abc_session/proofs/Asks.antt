@@ -4,7 +4,7 @@ use Rattle.std.proofs.lemmas.List.{append-nil}
 use Rattle.std.specs.List.{AllByRecursion}
 use Rattle.abc_num.proofs.Parts.{each_weaker}
 use Rattle.abc_session.specs.Asking.{Asked, AsksNow, Rises, AskedRising, next_ask}
-use Rattle.abc_session.specs.Reading.{WantsMore, AsksMore}
+use Rattle.abc_session.specs.inner.Reading.{WantsMore, AsksMore}
 
 all-append : (P : ℕ × ℕ → Type 0) (xs ys : List (ℕ × ℕ)) → AllByRecursion P xs → AllByRecursion P ys → AllByRecursion P (xs ++ ys)
 all-append P [] ys p q = q

@@ -2,7 +2,7 @@
 use Rattle.std.proofs.Common.{◌≡◌, ℕ, Bool, true, false, List, [], ◌∷◌, ◌++◌, refl, ◌∙◌, ap, arith}
 use Rattle.std.proofs.lemmas.Bool.Decides.{nat_tests}
 use Rattle.abc_session.specs.Lines.{cut_at_lf, onto}
-use Rattle.abc_session.specs.Reading.{HasNoLf}
+use Rattle.abc_session.specs.inner.Reading.{HasNoLf}
 
 goes_on : (ends : Bool) (b : ℕ) (bytes : List ℕ) → (b ≡ 10 → ⊥) → cut_at_lf ends (b ∷ bytes) ≡ onto ends b (cut_at_lf ends bytes)
 goes_on ends b bytes other = grind (arith, nat_tests)

@@ -6,7 +6,7 @@ use Rattle.std.specs.List.{slice_split, onto_first}
 use Rattle.std.proofs.lemmas.List.Splits.{slice_split-cons_no}
 use Rattle.abc_session.specs.Command.{is_source, is_number, is_target, source, other, write_form, put_form, form_of_words, words, begins_with_space, has_byte}
 use Rattle.abc_session.specs.Command as form
-use Rattle.abc_session.specs.CommandView.{split_off}
+use Rattle.abc_session.specs.inner.CommandView.{split_off}
 
 abbrev is_space : ℕ → Bool
 is_space byte = byte == 32

@@ -2,7 +2,7 @@
 use Rattle.std.proofs.Common.{◌≡◌, ℕ, zero, suc, ◌+◌, ◌-◌, ◌<◌, ◌≤◌, true, false, List, [], ◌∷◌, ◌++◌, length, take, drop, get_or, sym, ◌∙◌, ap, arith, take-append-drop, length-take, length-drop}
 use Rattle.std.proofs.lemmas.List.{drop_more, drop-take, drop-drop, take_all, append-nil}
 use Rattle.abc_session.specs.Lines.{Line, line_of}
-use Rattle.abc_session.specs.Reading.{HasNoLf, TookPart}
+use Rattle.abc_session.specs.inner.Reading.{HasNoLf, TookPart}
 
 pub no_lf : (n : ℕ) (bytes : List ℕ) → n ≤ length bytes → ((k : ℕ) → k < n → get_or bytes k 0 ≡ 10 → ⊥) → HasNoLf (take n bytes)
 no_lf zero bytes le f = tt

@@ -8,7 +8,7 @@ use Rattle.std.proofs.lemmas.List.Folds.{concat-append}
 use Rattle.std.proofs.Math.Seq.{take-append-add}
 use Rattle.abc_outside.specs.Outside.{Outside}
 use Rattle.abc_session.specs.Lines.{Line, line_of, cut_at_lf, lines_by, is_blank, items_of}
-use Rattle.abc_session.specs.Reading.{pending_of, UsesLine, WantsMore, AsksMore}
+use Rattle.abc_session.specs.inner.Reading.{pending_of, UsesLine, WantsMore, AsksMore}
 use Rattle.abc_session.specs.Session.{Work, outcome, after, replies}
 use Rattle.abc_session.specs.Serving.{OpensTo}
 use Rattle.abc_session.specs.Settled.{whole_items, settled, AsksSettled, IsWaiting, IsBeforeLine}

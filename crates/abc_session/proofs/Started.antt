@@ -4,7 +4,7 @@ use Rattle.std.specs.Prelude.{map, IfSome}
 use Rattle.std.proofs.lemmas.List.{append-nil, length-take-le, take_all, take_at, drop_at, drop-drop}
 use Rattle.std.proofs.lemmas.Bool.{lt-ltb}
 use Rattle.abc_session.specs.Lines.{Line, line_of, cut_at_lf, lines_by}
-use Rattle.abc_session.specs.Reading.{HasNoLf, TookPart, UsesLine, WantsMore, IsLast, shown}
+use Rattle.abc_session.specs.inner.Reading.{HasNoLf, TookPart, UsesLine, WantsMore, IsLast, shown}
 use Rattle.abc_session.specs.declared.line.Line as code
 use Rattle.abc_session.proofs.Cutting.{first_is, none_ended, last_is, all-append}
 

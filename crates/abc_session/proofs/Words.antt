@@ -4,7 +4,7 @@ use Rattle.std.specs.Prelude.{filter}
 use Rattle.std.specs.List.{slice_split, prefix_len, onto_first}
 use Rattle.std.proofs.lemmas.List.Splits.{slice_split-cons_yes, slice_split-cons_no}
 use Rattle.abc_session.specs.Command.{words, begins_with_space, has_byte}
-use Rattle.abc_session.specs.CommandView.{split_off}
+use Rattle.abc_session.specs.inner.CommandView.{split_off}
 
 abbrev is_space : ℕ → Bool
 is_space byte = byte == 32

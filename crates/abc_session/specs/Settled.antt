@@ -4,7 +4,7 @@ use Rattle.std.specs.List.{concat}
 use Rattle.abc_outside.specs.Outside.{Outside}
 use Rattle.abc_session.specs.Lines.{Line, cut_at_lf, lines_by, items_of}
 use Rattle.abc_session.specs.Session.{Work, after, replies}
-use Rattle.abc_session.specs.Reading.{pending_of}
+use Rattle.abc_session.specs.inner.Reading.{pending_of}
 use Rattle.abc_session.specs.Serving.{OpensTo}
 use Rattle.abc_session.specs.declared.reader.Reader.{Reader}
 

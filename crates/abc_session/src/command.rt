@@ -3,7 +3,7 @@ ghost use Rattle.std.specs.Prelude.{◌≡◌, ◌==◌, ◌≤◌, ◌+◌, ◌
 ghost use Rattle.abc_num.specs.Literal.{digits_value};
 ghost use Rattle.abc_session.specs.Command.{is_target, is_number, is_source, source, words, write_form, put_form, form_of_words, begins_with_space, is_some_of, is_letter, is_digit};
 ghost use Rattle.std.specs.List.{prefix_len, list_all};
-ghost use Rattle.abc_session.specs.CommandView.{form_of_command, source_of_option, split_off, HasNumber, IsFit};
+ghost use Rattle.abc_session.specs.inner.CommandView.{form_of_command, source_of_option, split_off, HasNumber, IsFit};
 ghost use Rattle.abc_session.specs.Targets.{IsNumber};
 
 use crate::scan::place_of;

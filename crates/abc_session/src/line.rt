@@ -2,7 +2,7 @@
 ghost use Rattle.std.specs.Prelude.{◌≡◌, ◌==◌, ◌≤◌, ◌+◌, ◌++◌, false, [], List, ℕ, length, OnOk};
 ghost use Rattle.std.specs.List.{list_all};
 ghost use Rattle.abc_session.specs.Lines.{line_of, is_blank};
-ghost use Rattle.abc_session.specs.Reading.{shown, IsLast};
+ghost use Rattle.abc_session.specs.inner.Reading.{shown, IsLast};
 
 use abc_num::limits::MOST_LINE_BYTES;
 use std::alloc::{AllocError, Global};

@@ -90,7 +90,7 @@ fn read_piece<H: Host>(host: &mut H, piece: &mut [u8], most: u64) -> Result<usiz
 }
 
 impl Reader {
-    ghost use Rattle.abc_session.specs.Reading.{shown, pending_of, used_of, lines_left, TookPart, UsesLine, WantsMore, AsksMore};
+    ghost use Rattle.abc_session.specs.inner.Reading.{shown, pending_of, used_of, lines_left, TookPart, UsesLine, WantsMore, AsksMore};
 
     pub(crate) fn new(alloc: Global, bound: u64) -> Reader
         ensures taken { result.taken ≡ 0 }

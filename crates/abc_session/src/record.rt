@@ -2,7 +2,7 @@
 ghost use Rattle.std.specs.Prelude.{◌≡◌, ◌≤◌, ◌<◌, ◌^◌, length, ◌++◌, None, Some, IfOk, OnOk, IfSome, if◌then◌else◌};
 ghost use Rattle.abc_session.specs.Record.{in_four, in_eight, four_at, eight_at, is_kept_name, spelled, spelled_text, spelled_number, text_at, number_at, change_at, applied};
 ghost use Rattle.abc_session.specs.Targets.{IsNumber};
-ghost use Rattle.abc_session.specs.RecordView.{texts_of, number_and_rest, change_and_rest};
+ghost use Rattle.abc_session.specs.inner.RecordView.{texts_of, number_and_rest, change_and_rest};
 
 use crate::command::is_name;
 use crate::targets::Targets;

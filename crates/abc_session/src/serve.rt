@@ -3,8 +3,8 @@ ghost use Rattle.std.specs.Prelude.{◌≡◌, ◌≤◌, ◌<◌, ◌⊎◌, �
 ghost use Rattle.abc_outside.specs.Outside.{RoseByOne, IsFaultless, KeepsButStore};
 ghost use Rattle.abc_outside.specs.Stop.{Leaves, IsQuiet};
 ghost use Rattle.abc_session.specs.Command.{form_of, put, write, is_some_of, is_letter};
-ghost use Rattle.abc_session.specs.CommandView.{form_of_command, source_of, HasNumber, IsFit};
-ghost use Rattle.abc_session.specs.Reading.{shown};
+ghost use Rattle.abc_session.specs.inner.CommandView.{form_of_command, source_of, HasNumber, IsFit};
+ghost use Rattle.abc_session.specs.inner.Reading.{shown};
 ghost use Rattle.abc_session.specs.Reply.{missing_reply};
 ghost use Rattle.abc_session.specs.Targets.{IsNumber};
 ghost use Rattle.abc_session.specs.Session.{Outcome, outcome, outcome_of, with_source, put_outcome};

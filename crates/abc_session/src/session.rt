@@ -5,13 +5,13 @@ ghost use Rattle.abc_outside.specs.Outside.{RoseByOne, IsFaultless};
 ghost use Rattle.abc_outside.specs.Stop.{Leaves, IsQuiet};
 ghost use Rattle.abc_outside.specs.Session.{HasServed};
 ghost use Rattle.abc_session.specs.Lines.{items_of, lines_of};
-ghost use Rattle.abc_session.specs.Reading.{lines_left, used_of};
+ghost use Rattle.abc_session.specs.inner.Reading.{lines_left, used_of};
 ghost use Rattle.abc_session.specs.Session.{Work, after, replies};
 ghost use Rattle.abc_session.specs.Serving.{work_of, works, Holds, IsSessionPoint, NoneFell, OnlyInputFailed, OnlyStoreFailed, OnlySinkFailed};
 ghost use Rattle.abc_outside.specs.Session.{IsBetween, IsBroken, IsCutShort};
 ghost use Rattle.abc_outside.specs.Stop.{Now};
 ghost use Rattle.abc_session.specs.Asking.{Asked, AskedRising, next_ask};
-ghost use Rattle.abc_session.specs.Reading.{pending_of, WantsMore, AsksMore};
+ghost use Rattle.abc_session.specs.inner.Reading.{pending_of, WantsMore, AsksMore};
 ghost use Rattle.abc_session.specs.Serving.{OpensTo};
 ghost use Rattle.abc_session.specs.Settled.{AsksSettled, IsWaiting, IsBeforeLine};
 

@@ -15,7 +15,7 @@ pub(crate) struct Targets {
 
 impl Model for Targets {
     ghost use Rattle.std.specs.Prelude.{List, ℕ, ℤ};
-    ghost use Rattle.abc_session.specs.TargetsView.{entries_of};
+    ghost use Rattle.abc_session.specs.inner.TargetsView.{entries_of};
 
     ghost Value = { List (List ℕ × ℤ) };
 

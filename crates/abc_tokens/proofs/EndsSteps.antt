@@ -12,8 +12,8 @@ use Rattle.abc_tokens.specs.Scanned.{scanned}
 use Rattle.abc_tokens.specs.declared.kinds.First.{First}
 use Rattle.abc_tokens.specs.declared.kinds.Shape.{Shape}
 use Rattle.abc_tokens.specs.Shape.{last, text_of, indentation, is_blank, is_spelled, beginning, shape_by}
-use Rattle.abc_tokens.specs.Shapes.{IsWithin, AreEnds, EndsFound}
-use Rattle.abc_tokens.specs.Reads.{found_from, IsStart, IsReadAt, IsOpenAt, prepended}
+use Rattle.abc_tokens.specs.inner.Shapes.{IsWithin, AreEnds, EndsFound}
+use Rattle.abc_tokens.specs.inner.Reads.{found_from, IsStart, IsReadAt, IsOpenAt, prepended}
 use Rattle.abc_tokens.proofs.TokenSteps.{prepended-nil, prepended-onto}
 
 last_push : (ts : List Token) (t : Token) → last (ts ++ t ∷ []) ≡ Some t

@@ -4,7 +4,7 @@ use Rattle.std.specs.Prelude.{Any}
 use Rattle.std.proofs.lemmas.List.{get_or_append_left, get_or-append-add}
 use Rattle.std.proofs.lemmas.List.Elements.{All-nil, All-append}
 use Rattle.abc_tokens.specs.Tokens.{IsSound, IsBadNumber}
-use Rattle.abc_tokens.specs.Steps.{Judges}
+use Rattle.abc_tokens.specs.inner.Steps.{Judges}
 
 Any-left : (xs ys : List (List ℕ)) → Any IsBadNumber xs → Any IsBadNumber (xs ++ ys)
 Any-left xs ys (k, x, l, e, h) = let p : k < length (xs ++ ys) = omega (arith, length-append xs ys) in

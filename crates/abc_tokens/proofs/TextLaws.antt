@@ -9,7 +9,7 @@ use Rattle.abc_tokens.specs.Bytes.{is_quote, space, backslash, backquote, begins
 use Rattle.abc_tokens.specs.Words.{IsLongest, number_of}
 use Rattle.abc_tokens.specs.Texts.{Closes, Converts, closing, doubled_quote, doubled_backquote, character, conversion, finish, blank, word, text, other}
 use Rattle.abc_tokens.specs.Scanned.{ending, text_ending, behind_text, at_word, word_in_front}
-use Rattle.abc_tokens.specs.Reading.{resumed}
+use Rattle.abc_tokens.specs.inner.Reading.{resumed}
 use Rattle.abc_tokens.proofs.InFront.{in_front, none_from_none, longest_in_front, none_in_front}
 use Rattle.abc_tokens.proofs.TextSteps as steps
 use Rattle.abc_tokens.proofs.TextSteps.{word_step}

@@ -9,8 +9,8 @@ use Rattle.abc_tokens.specs.declared.texts.Turn.TheVariants.{Stays}
 use Rattle.abc_tokens.specs.Bytes.{begins}
 use Rattle.abc_tokens.specs.Words.{number_of}
 use Rattle.abc_tokens.specs.Scanned.{ending, text_ending, at_word, word_in_front}
-use Rattle.abc_tokens.specs.Steps.{Judges}
-use Rattle.abc_tokens.specs.Reading.{open_quotes, resumed, turned, from_here, IsStep, IsWordStep, IsPlace, GoesOn}
+use Rattle.abc_tokens.specs.inner.Steps.{Judges}
+use Rattle.abc_tokens.specs.inner.Reading.{open_quotes, resumed, turned, from_here, IsStep, IsWordStep, IsPlace, GoesOn}
 use Rattle.abc_tokens.proofs.Judging.{Judges-append}
 use Rattle.abc_tokens.proofs.TextSteps.{word_step}
 

@@ -7,7 +7,7 @@ use Rattle.abc_tokens.specs.declared.texts.Step.{Step}
 use Rattle.abc_tokens.specs.declared.texts.Turn.TheVariants.{Stays, Converts, Returns, Opens, Closes}
 use Rattle.abc_tokens.specs.Bytes.{is_quote, space, backslash, backquote, begins}
 use Rattle.abc_tokens.specs.Scanned.{Ending, ending, behind_text, at_word, word_in_front}
-use Rattle.abc_tokens.specs.Reading.{step_of, resumed, turned, IsStep, IsWordStep}
+use Rattle.abc_tokens.specs.inner.Reading.{step_of, resumed, turned, IsStep, IsWordStep}
 use Rattle.abc_tokens.proofs.Judging.{Judges-nil}
 
 -- passing over bytes

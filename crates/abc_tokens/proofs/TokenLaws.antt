@@ -13,7 +13,7 @@ use Rattle.abc_tokens.specs.Words.{IsLongest, number_of}
 use Rattle.abc_tokens.specs.Texts.{Closes}
 use Rattle.abc_tokens.specs.Tokens.{place, token, Tokens, none, comment, blank, word, text, other, open_text, has_characters, AreTokens, HasBadNumber, HasFault}
 use Rattle.abc_tokens.specs.Scanned.{Ending, Found, onto, scanned, with_text, with_word, word_in_front, text_ending}
-use Rattle.abc_tokens.specs.Reads.{IsScan, ScanFault}
+use Rattle.abc_tokens.specs.inner.Reads.{IsScan, ScanFault}
 use Rattle.abc_tokens.proofs.InFront.{in_front, none_from_none, longest_in_front, none_in_front}
 use Rattle.abc_tokens.proofs.TextLaws.{text_read, text_closed, text_open, closes_ends, Ends, no_quote, no_bytes, word_no_space, word_no_comment, word_no_quote}
 use Rattle.abc_tokens.proofs.TokenSteps.{scanned_skip}

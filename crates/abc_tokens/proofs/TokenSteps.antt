@@ -12,9 +12,9 @@ use Rattle.abc_tokens.specs.Bytes.{is_quote, space, backslash}
 use Rattle.abc_tokens.specs.Words.{number_of}
 use Rattle.abc_tokens.specs.Tokens.{place, token}
 use Rattle.abc_tokens.specs.Scanned.{Found, onto, scanned, with_byte, with_text, with_word, word_in_front, text_ending}
-use Rattle.abc_tokens.specs.Steps.{Judges}
-use Rattle.abc_tokens.specs.Reading.{IsTextEnd}
-use Rattle.abc_tokens.specs.Reads.{found_from, IsStart, IsReadAt, prepended}
+use Rattle.abc_tokens.specs.inner.Steps.{Judges}
+use Rattle.abc_tokens.specs.inner.Reading.{IsTextEnd}
+use Rattle.abc_tokens.specs.inner.Reads.{found_from, IsStart, IsReadAt, prepended}
 use Rattle.abc_tokens.proofs.Judging.{Judges-nil, Judges-append}
 
 -- passing over bytes

@@ -1,10 +1,7 @@
 pub mod Bytes
+pub mod inner
 pub mod Words
 pub mod Texts
 pub mod Tokens
 pub mod Shape
 pub mod Scanned
-pub mod Steps
-pub mod Reading
-pub mod Reads
-pub mod Shapes

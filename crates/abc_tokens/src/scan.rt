@@ -1,7 +1,7 @@
 //! The tokens of a line.
 ghost use Rattle.std.specs.Prelude.{◌≡◌, ◌≢◌, ◌↔◌, ◌<◌, ◌≤◌, length, false, IfOk, IfErr, IfSome, IfNone, Err, Some, [], slice_index, Bool, true};
 ghost use Rattle.abc_tokens.specs.Bytes.{is_quote, space, backslash};
-ghost use Rattle.abc_tokens.specs.Reads.{found_from, IsStart, IsReadAt, IsOpenAt, IsScan, ScanFault};
+ghost use Rattle.abc_tokens.specs.inner.Reads.{found_from, IsStart, IsReadAt, IsOpenAt, IsScan, ScanFault};
 ghost use Rattle.abc_tokens.specs.Tokens.{AreTokens, HasFault, has_characters};
 
 use crate::bytes::{has_characters, is_quote};

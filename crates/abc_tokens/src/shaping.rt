@@ -3,7 +3,7 @@ ghost use Rattle.std.specs.Prelude.{◌≡◌, ◌≤◌, ◌+◌, ◌*◌, ◌�
 ghost use Rattle.abc_num.specs.declared.limits.TheConstants.{MOST_LINE_BYTES};
 ghost use Rattle.abc_tokens.specs.declared.kinds.Token.{Token};
 ghost use Rattle.abc_tokens.specs.Shape.{indentation, text_of, is_blank, begins_environment, is_spelled, is_reserved, names_refinement, is_refinement, beginning, shape_of, IsShape};
-ghost use Rattle.abc_tokens.specs.Shapes.{IsWithin, AreEnds, EndsFound};
+ghost use Rattle.abc_tokens.specs.inner.Shapes.{IsWithin, AreEnds, EndsFound};
 
 use crate::scan::{token_at, token_start};
 use crate::{First, Shape, Token, TokenKind};

@@ -1,7 +1,7 @@
 //! Where a text ends, with the tokens of its conversions.
 ghost use Rattle.std.specs.Prelude.{◌≡◌, ◌<◌, ◌≤◌, ◌+◌, ◌&&◌, ◌==◌, ◌^◌, ◌∷◌, ℕ, List, IsTrue, length, drop, true, false, IfSome, IfNone, None};
 ghost use Rattle.abc_tokens.specs.Bytes.{is_quote, begins};
-ghost use Rattle.abc_tokens.specs.Reading.{step_of, open_quotes, resumed, turned, from_here, IsStep, IsWordStep, IsPlace, GoesOn, IsTextEnd};
+ghost use Rattle.abc_tokens.specs.inner.Reading.{step_of, open_quotes, resumed, turned, from_here, IsStep, IsWordStep, IsPlace, GoesOn, IsTextEnd};
 ghost use Rattle.abc_tokens.specs.Scanned.{ending, text_ending};
 
 use crate::bytes::is_quote;

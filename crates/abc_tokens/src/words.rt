@@ -4,7 +4,7 @@ ghost use Rattle.abc_num.specs.Literal.{IsNumberToken};
 ghost use Rattle.abc_tokens.specs.Bytes.{begins, is_digit};
 ghost use Rattle.abc_tokens.specs.Scanned.{letter, continues, tail_length, digits, begins_decimals, decimals, number_length, is_double, is_single, word_in_front};
 ghost use Rattle.abc_tokens.specs.Words.{goes_on, second_signs, number_of};
-ghost use Rattle.abc_tokens.specs.Steps.{word_of, IsSized, Judges};
+ghost use Rattle.abc_tokens.specs.inner.Steps.{word_of, IsSized, Judges};
 
 use crate::TokenKind;
 use crate::bytes::{is_capital, is_digit, is_quote, is_small};

@@ -11,7 +11,7 @@ use Rattle.std.specs.Cmp.Lexicographic.{nat_list_cmp_total}
 use Rattle.abc_num.proofs.Parts.{each_weaker}
 use Rattle.abc_tree.specs.Templates.{template_text, template_cmp}
 use Rattle.abc_tree.specs.Ordered.{RiseBy, found_by, placed_by, without_by}
-use Rattle.abc_tree.specs.Search.{IsAt, IsGap}
+use Rattle.abc_tree.specs.inner.Search.{IsAt, IsGap}
 use Rattle.abc_tree.specs.declared.templates.Template.{Template}
 
 -- the order of templates is one of their texts

@@ -1,8 +1,7 @@
 -- What the tree of an item is.
+pub mod inner
 pub mod Templates
-pub mod TemplatesView
 pub mod Ordered
-pub mod Search
 pub mod Units
 pub mod Lists
 pub mod Height

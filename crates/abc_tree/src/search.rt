@@ -1,7 +1,7 @@
 //! The search by template in a list that is in the order of its elements' templates.
 ghost use Rattle.std.specs.Prelude.{◌≡◌, IfOk, IfErr};
 ghost use Rattle.abc_tree.specs.Ordered.{RiseBy};
-ghost use Rattle.abc_tree.specs.Search.{IsAt, IsGap};
+ghost use Rattle.abc_tree.specs.inner.Search.{IsAt, IsGap};
 
 use crate::Template;
 use std::cmp::Ordering;

@@ -67,7 +67,7 @@ impl Word {
 }
 
 impl<'a> Letters<'a> {
-    ghost use Rattle.abc_tree.specs.TemplatesView.{letters_of};
+    ghost use Rattle.abc_tree.specs.inner.TemplatesView.{letters_of};
 
     /// The text of this template.
     fn of(template: &'a Template) -> Letters<'a>

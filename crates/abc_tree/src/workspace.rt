@@ -1,6 +1,6 @@
 //! The units of a workspace: a map from templates to units, in the order of the templates.
 ghost use Rattle.std.specs.Prelude.{◌≡◌, [], IfOk, IfErr, OnOk, OnErr, option_map, slice_get};
-ghost use Rattle.abc_tree.specs.Search.{IsAt, IsGap};
+ghost use Rattle.abc_tree.specs.inner.Search.{IsAt, IsGap};
 ghost use Rattle.abc_tree.specs.Units.{key, AreRising, unit_of, with_unit, without_unit};
 
 use crate::search::{HasTemplate, place_of};

@@ -1,8 +1,8 @@
 -- A variable is among others where it has a place among them.
 use Rattle.std.proofs.Common.{◌≡◌, ℕ, zero, suc, ◌<◌, ◌≤◌, inl, inr, List, [], ◌∷◌, length, get_or, sym, subst, arith, refl}
 use Rattle.abc_terms.specs.declared.term.VarId.{VarId}
-use Rattle.abc_unify.specs.Kinds.{AreIn}
-use Rattle.abc_unify.specs.Slots.{IsAmong}
+use Rattle.abc_unify.specs.inner.Kinds.{AreIn}
+use Rattle.abc_unify.specs.inner.Slots.{IsAmong}
 
 pub among_place : (xs : List VarId) (x : ℕ) (d : VarId) → IsAmong x xs → (k : ℕ) × (k < length xs) × (x ≡ (get_or xs k d).0)
 among_place [] x d c = absurd c

@@ -8,7 +8,7 @@ use Rattle.abc_unify.specs.declared.kind.Kind.TheVariants.{Free}
 use Rattle.abc_unify.specs.declared.kind.Slot.{Slot}
 use Rattle.abc_unify.specs.declared.kind.Slot.TheVariants.{Root}
 use Rattle.abc_unify.specs.declared.log.Entry.{Entry}
-use Rattle.abc_unify.specs.Logs.{rolled, EntryIn, IsLogged}
+use Rattle.abc_unify.specs.inner.Logs.{rolled, EntryIn, IsLogged}
 
 pub rolled-append : (slots : List Slot) (older newer : List Entry) → rolled slots (older ++ newer) ≡ rolled (rolled slots newer) older
 rolled-append slots [] newer = refl

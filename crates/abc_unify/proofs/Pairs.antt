@@ -2,7 +2,7 @@
 use Rattle.std.proofs.Common.{◌≡◌, ℕ, zero, suc, ◌+◌, ◌<◌, List, [], ◌∷◌, ◌++◌, length, take, get_or, ap, arith, refl, add-one}
 use Rattle.abc_terms.specs.declared.term.VarId.{VarId}
 use Rattle.abc_unify.specs.declared.kind.Ask.TheVariants.{Equal}
-use Rattle.abc_unify.specs.Kinds.{pairs}
+use Rattle.abc_unify.specs.inner.Kinds.{pairs}
 
 pairs_suc : (xs ys : List VarId) (i : ℕ) (d : VarId) → i < length xs → i < length ys → pairs (take (suc i) xs) (take (suc i) ys) ≡ pairs (take i xs) (take i ys) ++ Equal (get_or xs i d) (get_or ys i d) ∷ []
 pairs_suc [] ys i d h k = absurd (omega arith)

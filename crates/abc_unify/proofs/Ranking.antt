@@ -8,9 +8,9 @@ use Rattle.abc_unify.specs.declared.kind.Kind.TheVariants.{Free}
 use Rattle.abc_unify.specs.declared.kind.Slot.{Slot}
 use Rattle.abc_unify.specs.declared.kind.Slot.TheVariants.{Link, Root}
 use Rattle.abc_unify.specs.declared.log.Entry.{Entry}
-use Rattle.abc_unify.specs.Slots.{SlotsIn, SlotIn, root_of, IsChild, IsRanked}
-use Rattle.abc_unify.specs.Logs.{rolled}
-use Rattle.abc_unify.specs.Cycles.{IsDone, IsSearched}
+use Rattle.abc_unify.specs.inner.Slots.{SlotsIn, SlotIn, root_of, IsChild, IsRanked}
+use Rattle.abc_unify.specs.inner.Logs.{rolled}
+use Rattle.abc_unify.specs.inner.Cycles.{IsDone, IsSearched}
 use Rattle.abc_unify.proofs.Solutions.{root_of-link, root_of-root}
 
 -- a number by whether another is below two

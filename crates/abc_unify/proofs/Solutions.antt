@@ -10,8 +10,8 @@ use Rattle.abc_unify.specs.declared.kind.Kind.{Kind}
 use Rattle.abc_unify.specs.declared.kind.Kind.TheVariants.{Free, Number, Text, NumberOrText, ListOf, TableOf, TrainOf, CollectionOf, Compound}
 use Rattle.abc_unify.specs.declared.kind.Slot.{Slot}
 use Rattle.abc_unify.specs.declared.kind.Slot.TheVariants.{Link, Root}
-use Rattle.abc_unify.specs.Kinds.{types, Fits, IsTrain, IsCollection}
-use Rattle.abc_unify.specs.Slots.{SlotHolds, Meets, SlotsIn, SlotIn, follow, root_within, root_of, IsAmong, IsChild, IsRanked}
+use Rattle.abc_unify.specs.inner.Kinds.{types, Fits, IsTrain, IsCollection}
+use Rattle.abc_unify.specs.inner.Slots.{SlotHolds, Meets, SlotsIn, SlotIn, follow, root_within, root_of, IsAmong, IsChild, IsRanked}
 
 -- two ways to go on that agree below a lead to one variable
 follow_same : (n a : ℕ) (s : Slot) (go other : ℕ → ℕ) → SlotIn n a s → ((b : ℕ) → b < a → go b ≡ other b) → follow go a s ≡ follow other a s

@@ -23,10 +23,10 @@ use Rattle.abc_unify.specs.declared.kind.Kind.TheVariants.{Free}
 use Rattle.abc_unify.specs.declared.kind.Slot.{Slot}
 use Rattle.abc_unify.specs.declared.kind.Slot.TheVariants.{Link, Root}
 use Rattle.abc_unify.specs.declared.kind.Ask.{Ask}
-use Rattle.abc_unify.specs.Kinds.{AskHolds, AsksHold, KindIn, children}
-use Rattle.abc_unify.specs.Slots.{SlotHolds, Meets, SlotsIn, SlotIn, KeepsSolutions, HasNoSolution, follow, root_within, root_of, IsAmong, IsChild, IsRanked}
+use Rattle.abc_unify.specs.inner.Kinds.{AskHolds, AsksHold, KindIn, children}
+use Rattle.abc_unify.specs.inner.Slots.{SlotHolds, Meets, SlotsIn, SlotIn, KeepsSolutions, HasNoSolution, follow, root_within, root_of, IsAmong, IsChild, IsRanked}
 use Rattle.abc_unify.specs.Graphs.{HasSolution, IsUnsolvable}
-use Rattle.abc_unify.specs.States.{IsSolved}
+use Rattle.abc_unify.specs.inner.States.{IsSolved}
 use Rattle.abc_num.proofs.Parts.{All-front, All-behind}
 use Rattle.abc_unify.proofs.Steps.{All-one}
 use Rattle.abc_unify.proofs.Solutions.{ranked_has_solution}

@@ -17,8 +17,8 @@ use Rattle.abc_unify.specs.declared.kind.Ask.{Ask}
 use Rattle.abc_unify.specs.declared.kind.Ask.TheVariants.{Is, Equal}
 use Rattle.abc_unify.specs.declared.kind.More.{More}
 use Rattle.abc_unify.specs.declared.kind.More.TheVariants.{Nothing, One, Two, Parts}
-use Rattle.abc_unify.specs.Kinds.{types, Fits, AskHolds, AsksHold, children, AreIn, KindIn, AskIn, AsksIn, pairs, asks_of, MoreHolds, MoreFits, MoreIn, HasParts, kind_weight, ask_weight, more_weight}
-use Rattle.abc_unify.specs.Slots.{SlotHolds, Meets, SlotsIn, SlotIn, KeepsSolutions, HasNoSolution, slot_weight, weight}
+use Rattle.abc_unify.specs.inner.Kinds.{types, Fits, AskHolds, AsksHold, children, AreIn, KindIn, AskIn, AsksIn, pairs, asks_of, MoreHolds, MoreFits, MoreIn, HasParts, kind_weight, ask_weight, more_weight}
+use Rattle.abc_unify.specs.inner.Slots.{SlotHolds, Meets, SlotsIn, SlotIn, KeepsSolutions, HasNoSolution, slot_weight, weight}
 
 -- what is written at a place holds there
 pub Meets-at_set : (v : ℕ → Ground) (slots : List Slot) (r : ℕ) (s : Slot) → r < length slots → Meets v (set slots r s) → SlotHolds v (v r) s

@@ -14,9 +14,9 @@ use Rattle.abc_terms.specs.declared.demand.Demand.TheVariants as demand
 use Rattle.abc_unify.specs.declared.kind.Slot.{Slot}
 use Rattle.abc_unify.specs.declared.log.Entry.{Entry}
 use Rattle.abc_unify.specs.declared.state.Point.{Point}
-use Rattle.abc_unify.specs.Logs.{rolled, EntryIn, IsLogged}
+use Rattle.abc_unify.specs.inner.Logs.{rolled, EntryIn, IsLogged}
 use Rattle.abc_unify.specs.Graphs.{Held, Seen, held_at, back_at, with_variable, with_demand, with_node}
-use Rattle.abc_unify.specs.States.{IsSolved, IsPast, IsBefore, IsKept, point_at, earlier}
+use Rattle.abc_unify.specs.inner.States.{IsSolved, IsPast, IsBefore, IsKept, point_at, earlier}
 use Rattle.abc_unify.proofs.Logging.{rolled-append, rolled_length, logged_nothing}
 use Rattle.abc_unify.proofs.Solved.{nothing_solved}
 use Rattle.abc_unify.proofs.Walking.{AllPairs-left}

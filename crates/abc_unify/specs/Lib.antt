@@ -1,6 +1,2 @@
-pub mod Kinds
-pub mod Logs
-pub mod Slots
-pub mod Cycles
 pub mod Graphs
-pub mod States
+pub mod inner

@@ -2,10 +2,10 @@
 ghost use Rattle.std.specs.Prelude.{◌≡◌, ℕ, ◌<◌, ◌≤◌, ◌^◌, [], length, slice_index, slice_index_or, IfOk, IfSome, IfNone};
 ghost use Rattle.std.specs.List.{All};
 ghost use Rattle.abc_terms.specs.declared.term.VarId.{VarId};
-ghost use Rattle.abc_unify.specs.Kinds.{AreIn, KindIn};
-ghost use Rattle.abc_unify.specs.Slots.{SlotsIn, IsRoot, IsAmong, IsChild, root_of};
-ghost use Rattle.abc_unify.specs.Logs.{EntryIn};
-ghost use Rattle.abc_unify.specs.Cycles.{IsBelow, Marked, IsVisit, IsOnCycle, IsSearched};
+ghost use Rattle.abc_unify.specs.inner.Kinds.{AreIn, KindIn};
+ghost use Rattle.abc_unify.specs.inner.Slots.{SlotsIn, IsRoot, IsAmong, IsChild, root_of};
+ghost use Rattle.abc_unify.specs.inner.Logs.{EntryIn};
+ghost use Rattle.abc_unify.specs.inner.Cycles.{IsBelow, Marked, IsVisit, IsOnCycle, IsSearched};
 
 use crate::classes::find;
 use crate::kind::{Kind, Slot};

@@ -21,7 +21,7 @@ pub struct Graph {
 
 impl Model for Graph {
     ghost use Rattle.abc_unify.specs.Graphs.{Seen};
-    ghost use Rattle.abc_unify.specs.States.{IsState, seen};
+    ghost use Rattle.abc_unify.specs.inner.States.{IsState, seen};
     ghost use Rattle.abc_terms.specs.contracts.demand.Demand as demand;
     ghost use Rattle.std.specs.Coded.{codes};
 

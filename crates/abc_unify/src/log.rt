@@ -1,7 +1,7 @@
 //! Each write of a slot goes through `write`, which keeps what the slot was.
 ghost use Rattle.std.specs.Prelude.{◌≡◌, ◌<◌, ◌≤◌, length, take, drop, slice_set, IfOk, OnErr};
 ghost use Rattle.std.specs.List.{All};
-ghost use Rattle.abc_unify.specs.Logs.{IsLogged, rolled, EntryIn};
+ghost use Rattle.abc_unify.specs.inner.Logs.{IsLogged, rolled, EntryIn};
 
 use crate::kind::Slot;
 use abc_terms::VarId;

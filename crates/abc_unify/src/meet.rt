@@ -1,6 +1,6 @@
 //! What two kinds of one variable come to: one kind and further questions, or a clash.
 ghost use Rattle.std.specs.Prelude.{ℕ, ◌+◌, ◌≤◌};
-ghost use Rattle.abc_unify.specs.Kinds.{IsMeeting, MetIn, KindIn, kind_weight, met_weight, MetFits};
+ghost use Rattle.abc_unify.specs.inner.Kinds.{IsMeeting, MetIn, KindIn, kind_weight, met_weight, MetFits};
 ghost use Rattle.abc_terms.specs.declared.term.VarId.{VarId};
 
 use crate::kind::{Ask, Kind, Met, More, Vars};

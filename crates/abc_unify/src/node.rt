@@ -5,7 +5,7 @@ ghost use Rattle.abc_num.specs.declared.types.Ground.{Ground};
 ghost use Rattle.abc_terms.specs.Demands.{stands_for};
 ghost use Rattle.abc_terms.specs.Nodes.{IsVariable, IsNode};
 ghost use Rattle.abc_terms.specs.declared.term.Term.{Term};
-ghost use Rattle.abc_unify.specs.Slots.{SlotHolds, SlotIn};
+ghost use Rattle.abc_unify.specs.inner.Slots.{SlotHolds, SlotIn};
 
 use crate::kind::{Kind, Slot, Vars};
 use abc_terms::{Term, Terms, VarId};

@@ -1,9 +1,9 @@
 //! Takes what is asked into the slots until no class is on a cycle.
 ghost use Rattle.std.specs.Prelude.{◌≡◌, ℕ, ◌<◌, ◌^◌, [], length, IfOk, IsTrue};
-ghost use Rattle.abc_unify.specs.Kinds.{AsksIn};
-ghost use Rattle.abc_unify.specs.Slots.{SlotsIn, IsRanked, Stepped, weight};
-ghost use Rattle.abc_unify.specs.Logs.{IsLogged};
-ghost use Rattle.abc_unify.specs.Cycles.{IsOnCycle};
+ghost use Rattle.abc_unify.specs.inner.Kinds.{AsksIn};
+ghost use Rattle.abc_unify.specs.inner.Slots.{SlotsIn, IsRanked, Stepped, weight};
+ghost use Rattle.abc_unify.specs.inner.Logs.{IsLogged};
+ghost use Rattle.abc_unify.specs.inner.Cycles.{IsOnCycle};
 
 use crate::classes::kind_at;
 use crate::cycle::find_cycle;

@@ -1,8 +1,8 @@
 //! Takes what is asked into the slots, one step at a time.
 ghost use Rattle.std.specs.Prelude.{◌≡◌, ◌+◌, ◌<◌, ◌≤◌, [], ◌∷◌, ◌++◌, length, slice_index_or, IfOk, IsTrue};
-ghost use Rattle.abc_unify.specs.Kinds.{AskIn, AsksIn, MoreFits, asks_of, pairs};
-ghost use Rattle.abc_unify.specs.Slots.{SlotsIn, IsRoot, Stepped, KeepsSolutions, weight};
-ghost use Rattle.abc_unify.specs.Logs.{IsLogged};
+ghost use Rattle.abc_unify.specs.inner.Kinds.{AskIn, AsksIn, MoreFits, asks_of, pairs};
+ghost use Rattle.abc_unify.specs.inner.Slots.{SlotsIn, IsRoot, Stepped, KeepsSolutions, weight};
+ghost use Rattle.abc_unify.specs.inner.Logs.{IsLogged};
 
 use crate::classes::{copy_of, find, kind_at};
 use crate::kind::{Ask, Kind, Met, More, Slot};

@@ -5,11 +5,11 @@ ghost use Rattle.abc_num.specs.declared.types.Ground.{Ground};
 ghost use Rattle.abc_terms.specs.declared.demand.Demand.{Demand};
 ghost use Rattle.abc_terms.specs.Demands.{Holds};
 ghost use Rattle.abc_terms.specs.Nodes.{IsNode, DemandIn};
-ghost use Rattle.abc_unify.specs.Kinds.{AskHolds, AskIn};
-ghost use Rattle.abc_unify.specs.Slots.{SlotsIn, Stepped, IsRanked};
-ghost use Rattle.abc_unify.specs.Logs.{IsLogged, EntryIn};
+ghost use Rattle.abc_unify.specs.inner.Kinds.{AskHolds, AskIn};
+ghost use Rattle.abc_unify.specs.inner.Slots.{SlotsIn, Stepped, IsRanked};
+ghost use Rattle.abc_unify.specs.inner.Logs.{IsLogged, EntryIn};
 ghost use Rattle.abc_unify.specs.Graphs.{with_variable, with_demand, with_node, back_at, IsUnsolvable};
-ghost use Rattle.abc_unify.specs.States.{IsState, seen, point_at};
+ghost use Rattle.abc_unify.specs.inner.States.{IsState, seen, point_at};
 
 use crate::graph::UnifyFault;
 use crate::kind::{Ask, Kind, Slot};

@@ -8,7 +8,7 @@ use Rattle.abc_value.specs.declared.value.Entry.{Entry}
 use Rattle.abc_value.specs.Tree.{Tree, trees, pairs}
 use Rattle.abc_value.specs.View.{as_pair}
 use Rattle.abc_value.specs.Printed.{doubled, joined, display, displays, pair_display, pair_displays, plain, plains}
-use Rattle.abc_value.specs.Printing.{IsAdded, lead}
+use Rattle.abc_value.specs.inner.Printing.{IsAdded, lead}
 
 -- of all that is to stand behind `before`, `rest` is not there yet
 pub record IsGoing (before all now rest : List ℕ) (most : ℕ) : Type 0 where

@@ -3,13 +3,13 @@ pub mod Code
 pub mod Falls
 pub mod FormCode
 pub mod Forms
+pub mod inner
 pub mod Items
 pub mod Laws
 pub mod Order
 pub mod Parts
 pub mod Printed
 pub mod PrintedLaws
-pub mod Printing
 pub mod Regular
 pub mod ShapeFalls
 pub mod ShapeLaws

@@ -3,7 +3,7 @@ ghost use Rattle.std.specs.Prelude.{◌≡◌, ◌≤◌, ◌<◌, length, map, 
 ghost use Rattle.std.specs.List.{flat_map};
 ghost use Rattle.abc_value.specs.Tree.{trees, pairs};
 ghost use Rattle.abc_value.specs.Printed.{number_text, quoted, doubled, joined, pair_display, display, displays, pair_displays, plain, plains, outer};
-ghost use Rattle.abc_value.specs.Printing.{IsAdded, lead};
+ghost use Rattle.abc_value.specs.inner.Printing.{IsAdded, lead};
 ghost use Rattle.abc_value.specs.View.{as_pair};
 
 use crate::numeral::number_bytes;

@@ -1,7 +1,7 @@
 use Rattle.std.proofs.Common.{◌<◌, ◌↔◌, map, drop}
 use Rattle.abc_tree.specs.Height.{height, above}
 use Rattle.abc_tree.specs.Lists.{flat}
-use Rattle.abc_expressions.specs.Heights.{fill_height, piece_height, pair_height}
+use Rattle.abc_expressions.specs.inner.Heights.{fill_height, piece_height, pair_height}
 use Rattle.abc_expressions.proofs.height.+height.Given as goal
 
 abbrev pub invariant-a_part_reaches-loop-part : goal.invariant-a_part_reaches-loop-part

@@ -1,5 +1,5 @@
 use Rattle.std.proofs.Common.{◌≡◌, ◌≤◌, ℕ, suc, ◌+◌, [], take, drop, length, refl, sym, ◌∙◌, subst, arith}
-use Rattle.abc_expressions.specs.Machine.{conversion_from}
+use Rattle.abc_expressions.specs.inner.Machine.{conversion_from}
 use Rattle.abc_expressions.proofs.SplitSteps.{ends_here, goes_further, never_ends}
 use Rattle.abc_expressions.proofs.texts.conversion_end.Goals as goal
 

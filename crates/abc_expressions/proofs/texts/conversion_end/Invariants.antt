@@ -1,5 +1,5 @@
 use Rattle.std.proofs.Common.{◌≡◌, ◌≤◌, ◌-◌, [], take, drop, length}
-use Rattle.abc_expressions.specs.Machine.{conversion_from}
+use Rattle.abc_expressions.specs.inner.Machine.{conversion_from}
 use Rattle.abc_expressions.proofs.texts.conversion_end.Given as goal
 
 abbrev pub invariant-loop-at : goal.invariant-loop-at

@@ -1,6 +1,6 @@
 use Rattle.std.proofs.Common.{◌≡◌, length}
-use Rattle.abc_expressions.specs.Machine.{before_parts, split}
-use Rattle.abc_expressions.specs.Splitting.{all_parts}
+use Rattle.abc_expressions.specs.inner.Machine.{before_parts, split}
+use Rattle.abc_expressions.specs.inner.Splitting.{all_parts}
 use Rattle.abc_expressions.proofs.texts.split.Given as goal
 
 abbrev pub invariant-parts : goal.invariant-parts

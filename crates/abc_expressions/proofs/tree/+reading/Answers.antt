@@ -4,7 +4,7 @@ use Rattle.std.proofs.lemmas.List.Elements.{All-tail}
 use Rattle.std.proofs.lemmas.Bool.{eqb-false}
 use Rattle.std.proofs.lemmas.Result.{err_from_is_err_and}
 use Rattle.abc_expressions.specs.declared.frames.Group.TheVariants as grp
-use Rattle.abc_expressions.specs.Machine.{converter, reader}
+use Rattle.abc_expressions.specs.inner.Machine.{converter, reader}
 use Rattle.abc_expressions.specs.Lexemes.{IsSpelled}
 use Rattle.abc_expressions.proofs.ReaderSteps.{opened_as}
 use Rattle.abc_expressions.proofs.TreeSteps.{wants_same, display_same, display_other, pair_same, colon_same, converted_is, read_alone, read_more, read_none, goes_on, stops, refused, unended, ended, gives_front, gives_fault}

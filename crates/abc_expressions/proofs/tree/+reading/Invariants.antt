@@ -1,7 +1,7 @@
 use Rattle.std.proofs.Common.{◌≡◌, ℕ, ◌+◌, ◌*◌, ◌≤◌, All, length, drop}
 use Rattle.abc_expressions.specs.Lexemes.{IsSpelled}
-use Rattle.abc_expressions.specs.Machine.{converter, reader, run, tree_at, pieces_of}
-use Rattle.abc_expressions.specs.Steps.{opens, held}
+use Rattle.abc_expressions.specs.inner.Machine.{converter, reader, run, tree_at, pieces_of}
+use Rattle.abc_expressions.specs.inner.Steps.{opens, held}
 use Rattle.abc_expressions.proofs.TreeSteps.{after_pieces}
 use Rattle.abc_expressions.proofs.tree.+reading.Given as goal
 

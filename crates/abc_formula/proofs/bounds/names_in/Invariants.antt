@@ -1,6 +1,6 @@
 use Rattle.std.proofs.Common.{◌≡◌, ◌+◌, ◌≤◌, ◌∷◌, [], true, length, All}
 use Rattle.abc_expressions.specs.Lexemes.{IsSpelled}
-use Rattle.abc_formula.specs.TestMachine.{names_in}
+use Rattle.abc_formula.specs.inner.TestMachine.{names_in}
 use Rattle.abc_formula.proofs.bounds.names_in.Given as goal
 
 abbrev pub invariant-loop-token : goal.invariant-loop-token

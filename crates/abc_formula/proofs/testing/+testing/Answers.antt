@@ -3,8 +3,8 @@ use Rattle.std.proofs.lemmas.Bool.Decides.{nat_tests}
 use Rattle.std.proofs.lemmas.Result.{err_from_is_err_and}
 use Rattle.abc_formula.specs.declared.test_frames.Front.TheVariants as front
 use Rattle.abc_formula.specs.declared.test_frames.Place.TheVariants as place
-use Rattle.abc_expressions.specs.Machine.{reader}
-use Rattle.abc_formula.specs.TestMachine.{test_in}
+use Rattle.abc_expressions.specs.inner.Machine.{reader}
+use Rattle.abc_formula.specs.inner.TestMachine.{test_in}
 use Rattle.abc_formula.proofs.TestTurns.{TestIs, rest_is, fewer_behind, quantifier_refused, tight_joins, round_refused, test_start, test_goes, test_ends, test_refused}
 use Rattle.abc_formula.proofs.testing.+testing.Goals as goal
 

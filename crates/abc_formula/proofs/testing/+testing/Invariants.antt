@@ -1,6 +1,6 @@
 use Rattle.std.proofs.Common.{ℕ, ◌+◌, ◌*◌, ◌≤◌, length, All}
 use Rattle.abc_expressions.specs.Lexemes.{IsSpelled}
-use Rattle.abc_expressions.specs.Machine.{reader}
+use Rattle.abc_expressions.specs.inner.Machine.{reader}
 use Rattle.abc_formula.proofs.TestTurns.{TestIs}
 use Rattle.abc_formula.proofs.testing.+testing.Given as goal
 

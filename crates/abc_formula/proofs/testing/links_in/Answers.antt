@@ -3,7 +3,7 @@ use Rattle.std.proofs.lemmas.List.Elements.{All-tail}
 use Rattle.std.proofs.lemmas.List.{nil_from_length}
 use Rattle.std.proofs.lemmas.Result.{err_from_is_err_and}
 use Rattle.abc_expressions.specs.Lexemes.{IsSpelled}
-use Rattle.abc_expressions.specs.Machine.{reader}
+use Rattle.abc_expressions.specs.inner.Machine.{reader}
 use Rattle.abc_formula.proofs.TestTurns.{LinksAre, links_start, links_on, links_refused, links_end, links_last}
 use Rattle.abc_formula.proofs.testing.links_in.Goals as goal
 

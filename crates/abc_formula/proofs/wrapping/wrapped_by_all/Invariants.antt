@@ -1,5 +1,5 @@
 use Rattle.std.proofs.Common.{◌≡◌, length}
-use Rattle.abc_formula.specs.TestSteps.{fold_test}
+use Rattle.abc_formula.specs.inner.TestSteps.{fold_test}
 use Rattle.abc_formula.proofs.wrapping.wrapped_by_all.Given as goal
 
 abbrev pub invariant-loop-frame : goal.invariant-loop-frame

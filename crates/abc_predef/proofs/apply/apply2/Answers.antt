@@ -1,6 +1,6 @@
 use Rattle.std.proofs.Common.{ap, subst}
 use Rattle.abc_predef.specs.declared.table.Letter.TheVariants as letter
-use Rattle.abc_predef.specs.Places.{IsLike}
+use Rattle.abc_predef.specs.inner.Places.{IsLike}
 use Rattle.abc_predef.specs.Signatures.{operands}
 use Rattle.std.proofs.lemmas.Option.{same_Some}
 use Rattle.abc_predef.proofs.AllOperations.{none_of_two}

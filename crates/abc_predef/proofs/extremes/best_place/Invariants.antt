@@ -2,7 +2,7 @@ use Rattle.std.proofs.Common.{take}
 use Rattle.std.specs.List.{filter}
 use Rattle.std.specs.Option.{option_map}
 use Rattle.abc_value.specs.Items.{elements_of}
-use Rattle.abc_predef.specs.Places.{IsPlaceOfBest, is_wanted}
+use Rattle.abc_predef.specs.inner.Places.{IsPlaceOfBest, is_wanted}
 use Rattle.abc_predef.proofs.extremes.best_place.Given as goal
 
 abbrev pub invariant-loop-i : goal.invariant-loop-i

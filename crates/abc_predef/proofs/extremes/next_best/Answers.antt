@@ -1,6 +1,6 @@
 use Rattle.std.proofs.Common.{sym, ◌∙◌}
 use Rattle.std.specs.Option.{option_map}
-use Rattle.abc_predef.specs.Places.{is_wanted, element_at}
+use Rattle.abc_predef.specs.inner.Places.{is_wanted, element_at}
 use Rattle.abc_predef.proofs.Bests.{best_moves}
 use Rattle.abc_predef.proofs.extremes.next_best.Goals as goal
 

@@ -3,7 +3,7 @@ use Rattle.std.proofs.lemmas.Result.{err_from_is_err_and}
 use Rattle.abc_print.specs.declared.frames.Lexeme.TheVariants as lexeme
 use Rattle.abc_print.specs.declared.lexing.Class.{Class}
 use Rattle.abc_print.specs.declared.lexing.State.TheVariants as state
-use Rattle.abc_print.specs.Lexing.{Reads}
+use Rattle.abc_print.specs.inner.Lexing.{Reads}
 use Rattle.abc_print.proofs.Tokenwise.{divided_no_quotient, divided_number}
 use Rattle.abc_print.proofs.lexing.divided.Goals as goal
 

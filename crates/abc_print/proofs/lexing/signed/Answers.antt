@@ -3,7 +3,7 @@ use Rattle.abc_num.specs.Number.{Fraction}
 use Rattle.abc_print.specs.declared.lexing.Class.{Class}
 use Rattle.abc_print.specs.declared.lexing.Class.TheVariants as class
 use Rattle.abc_print.specs.declared.lexing.State.TheVariants as state
-use Rattle.abc_print.specs.Lexing.{Reads}
+use Rattle.abc_print.specs.inner.Lexing.{Reads}
 use Rattle.abc_print.proofs.Tokenwise.{signed_number}
 use Rattle.abc_print.proofs.lexing.signed.Goals as goal
 

@@ -1,7 +1,7 @@
 use Rattle.std.proofs.Common.{Ok, sym, subst}
 use Rattle.abc_print.specs.declared.lexing.Class.{Class}
 use Rattle.abc_print.specs.declared.lexing.State.TheVariants as state
-use Rattle.abc_print.specs.Lexing.{Reads}
+use Rattle.abc_print.specs.inner.Lexing.{Reads}
 use Rattle.abc_print.proofs.Tokenwise.{start_number}
 use Rattle.abc_print.proofs.lexing.start.Goals as goal
 

@@ -1,7 +1,7 @@
 use Rattle.std.proofs.Common.{List, Err, refl, sym, ◌∙◌, subst}
 use Rattle.abc_value.specs.Tree.{Tree}
 use Rattle.abc_print.specs.Literals.{listed}
-use Rattle.abc_print.specs.Machine.{Gives}
+use Rattle.abc_print.specs.inner.Machine.{Gives}
 use Rattle.abc_print.proofs.Collecting.{IsCollected, none_collected, one_collected, too_much}
 use Rattle.abc_print.proofs.making.list_value.Goals as goal
 

@@ -2,7 +2,7 @@ use Rattle.std.proofs.Common.{List, Err, refl, sym, ◌∙◌, subst}
 use Rattle.abc_value.specs.Tree.{Tree}
 use Rattle.abc_print.specs.declared.frames.Pair.{Pair}
 use Rattle.abc_print.specs.Literals.{tabled}
-use Rattle.abc_print.specs.Machine.{Gives}
+use Rattle.abc_print.specs.inner.Machine.{Gives}
 use Rattle.abc_print.proofs.Collecting.{ArePlaced, none_placed, pair_placed, pair_skipped, too_many, is_there, is_absent}
 use Rattle.abc_print.proofs.making.table_value.Goals as goal
 

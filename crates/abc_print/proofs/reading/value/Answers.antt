@@ -1,6 +1,6 @@
 use Rattle.std.proofs.Common.{◌∙◌}
 use Rattle.std.proofs.lemmas.Result.{err_from_is_err_and}
-use Rattle.abc_print.specs.Machine.{value_of, finished}
+use Rattle.abc_print.specs.inner.Machine.{value_of, finished}
 use Rattle.abc_print.proofs.Running.{goes_on, refused, ended, none_left, gives_found, unfinished}
 use Rattle.abc_print.proofs.reading.value.Goals as goal
 

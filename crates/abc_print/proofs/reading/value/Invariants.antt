@@ -1,5 +1,5 @@
 use Rattle.std.proofs.Common.{◌≡◌, length}
-use Rattle.abc_print.specs.Machine.{run, value_of}
+use Rattle.abc_print.specs.inner.Machine.{run, value_of}
 use Rattle.abc_print.proofs.reading.value.Given as goal
 
 abbrev pub invariant-loop-lexeme : goal.invariant-loop-lexeme

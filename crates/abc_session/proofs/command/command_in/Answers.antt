@@ -1,6 +1,6 @@
 use Rattle.std.proofs.Common.{rules, ◌≡◌, ◌∙◌, [], length, sym, ap}
 use Rattle.abc_session.specs.Command.{words}
-use Rattle.abc_session.specs.CommandView.{split_off}
+use Rattle.abc_session.specs.inner.CommandView.{split_off}
 use Rattle.abc_session.proofs.Forms.{Split, no_words, some_word, at_two, at_four, at_more}
 use Rattle.abc_session.proofs.command.command_in.Goals as goal
 

@@ -2,7 +2,7 @@ use Rattle.std.proofs.Common.{◌≡◌, ◌∙◌, ℕ, ◌-◌, length, drop, 
 use Rattle.std.proofs.lemmas.List.{take_all}
 use Rattle.std.proofs.lemmas.Bool.Decides.{nat_tests}
 use Rattle.abc_session.specs.Command.{words, begins_with_space}
-use Rattle.abc_session.specs.CommandView.{split_off}
+use Rattle.abc_session.specs.inner.CommandView.{split_off}
 use Rattle.abc_session.proofs.Words.{word_at, past_spaces, at_word}
 use Rattle.abc_session.proofs.command.first_word.Goals as goal
 

@@ -2,7 +2,7 @@ use Rattle.std.proofs.Common.{rules, ◌≡◌, ◌∙◌, ◌-◌, ◌+◌, ℕ
 use Rattle.std.proofs.lemmas.List.{take_all}
 use Rattle.abc_session.specs.Record.{Change, change_at}
 use Rattle.abc_session.specs.Targets.{with_value}
-use Rattle.abc_session.specs.RecordView.{change_and_rest}
+use Rattle.abc_session.specs.inner.RecordView.{change_and_rest}
 use Rattle.abc_session.proofs.Changes.{made, made_first, made_none, made_all, applied_is, applied_none}
 use Rattle.abc_session.proofs.record.apply.Goals as goal
 

@@ -1,7 +1,7 @@
 use Rattle.std.proofs.Common.{rules, ◌≡◌}
 use Rattle.abc_session.specs.Command.{form_of, write}
-use Rattle.abc_session.specs.CommandView.{source_of}
-use Rattle.abc_session.specs.Reading.{shown}
+use Rattle.abc_session.specs.inner.CommandView.{source_of}
+use Rattle.abc_session.specs.inner.Reading.{shown}
 use Rattle.abc_session.proofs.serve.answer.Goals as goal
 
 pub returns-in-Some-Write-clause-outcome : goal.returns-in-Some-Write-clause-outcome

@@ -1,7 +1,7 @@
 use Rattle.std.proofs.Common.{◌∙◌, sym, ap}
 use Rattle.abc_outside.specs.Stop.{Leaves, IsQuiet}
 use Rattle.abc_outside.proofs.Points.{commit_then_say}
-use Rattle.abc_session.specs.Reading.{shown}
+use Rattle.abc_session.specs.inner.Reading.{shown}
 use Rattle.abc_session.specs.Session.{Outcome, outcome}
 use Rattle.abc_session.specs.Serving.{work_of, OpensTo, IsItemStop}
 use Rattle.abc_session.proofs.Outcomes.{saying_stops}

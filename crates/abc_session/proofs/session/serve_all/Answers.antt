@@ -8,7 +8,7 @@ use Rattle.abc_session.proofs.Turns.{then_turn, then_stops, works_all}
 use Rattle.abc_outside.specs.Session.{IsBroken, IsCutShort}
 use Rattle.abc_outside.specs.Stop.{Leaves, IsQuiet}
 use Rattle.abc_outside.proofs.Endings.{between_later, broken_later, cut_later}
-use Rattle.abc_session.specs.Reading.{lines_left}
+use Rattle.abc_session.specs.inner.Reading.{lines_left}
 use Rattle.abc_session.specs.Session.{replies}
 use Rattle.abc_session.specs.Serving.{works, OpensTo, IsSessionPoint}
 use Rattle.abc_session.specs.Settled.{AsksSettled, IsBeforeLine}

@@ -3,7 +3,7 @@ use Rattle.abc_outside.specs.Stop.{Leaves, IsQuiet}
 use Rattle.abc_outside.specs.Outside.{IsFaultless}
 use Rattle.abc_outside.specs.Session.{HasServed}
 use Rattle.abc_session.specs.Lines.{items_of, lines_of}
-use Rattle.abc_session.specs.Reading.{lines_left, used_of}
+use Rattle.abc_session.specs.inner.Reading.{lines_left, used_of}
 use Rattle.abc_session.specs.Session.{replies}
 use Rattle.abc_session.specs.Serving.{work_of, works, Holds, IsSessionPoint, NoneFell}
 use Rattle.abc_session.specs.Asking.{Asked, AskedRising, next_ask}

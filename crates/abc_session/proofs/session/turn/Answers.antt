@@ -1,7 +1,7 @@
 use Rattle.std.proofs.Common.{rules, ◌≡◌, ◌∙◌, [], ◌∷◌, ◌++◌, ◌+◌, suc, List, ℕ, false, refl, sym, ap, subst, arith, inl, inr}
 use Rattle.abc_outside.specs.Stop.{Leaves, IsQuiet, Extends}
 use Rattle.abc_session.specs.Lines.{is_blank, items_of}
-use Rattle.abc_session.specs.Reading.{shown, lines_left}
+use Rattle.abc_session.specs.inner.Reading.{shown, lines_left}
 use Rattle.abc_session.specs.Session.{outcome}
 use Rattle.abc_session.specs.Serving.{work_of, OpensTo, IsSessionPoint}
 use Rattle.abc_session.specs.declared.serve.ServeStop.TheVariants as item
@@ -9,7 +9,7 @@ use Rattle.abc_session.specs.declared.session.SessionStop.TheVariants as session
 use Rattle.abc_session.proofs.Stops.{stopped_by, stopped_idle}
 use Rattle.abc_session.proofs.Turns.{reading_stops, item_stops, same_goes_on, item_goes_on, blank_first}
 use Rattle.std.specs.Prelude.{◌<◌, length, take, IsErrOf}
-use Rattle.abc_session.specs.Reading.{UsesLine, pending_of}
+use Rattle.abc_session.specs.inner.Reading.{UsesLine, pending_of}
 use Rattle.abc_session.specs.Settled.{IsBeforeLine}
 use Rattle.abc_session.proofs.Places.{past_blank, past_item}
 use Rattle.abc_session.proofs.Broken.{quiet_opens, item_broken, item_cut}

@@ -1,5 +1,5 @@
 use Rattle.std.proofs.Common.{◌≡◌, ◌≤◌, ◌-◌, length, Bool}
-use Rattle.abc_tokens.specs.Reads.{found_from}
+use Rattle.abc_tokens.specs.inner.Reads.{found_from}
 use Rattle.abc_tokens.proofs.scan.token_start.Given as goal
 
 abbrev pub invariant-loop-start : goal.invariant-loop-start

@@ -1,5 +1,5 @@
 use Rattle.std.proofs.Common.{true, ap, sym, ◌∙◌}
-use Rattle.abc_tokens.specs.Reading.{open_quotes, turned, resumed}
+use Rattle.abc_tokens.specs.inner.Reading.{open_quotes, turned, resumed}
 use Rattle.abc_tokens.proofs.TextLoop.{opened}
 use Rattle.abc_tokens.proofs.texts.turned.Goals as goal
 

@@ -1,6 +1,6 @@
 use Rattle.std.proofs.Common.{◌≡◌, ℕ, ◌<◌, length}
 use Rattle.abc_num.specs.declared.types.Ground.{Ground}
-use Rattle.abc_unify.specs.Slots.{Meets, root_of}
+use Rattle.abc_unify.specs.inner.Slots.{Meets, root_of}
 use Rattle.abc_unify.proofs.classes.find.Given as goal
 
 abbrev pub invariant-loop-next : goal.invariant-loop-next

@@ -1,6 +1,6 @@
 use Rattle.std.proofs.Common.{◌≡◌, ℕ, ◌<◌, ◌≤◌, length, get_or, sym, subst, arith}
 use Rattle.abc_terms.specs.declared.term.VarId.{VarId}
-use Rattle.abc_unify.specs.Slots.{root_of}
+use Rattle.abc_unify.specs.inner.Slots.{root_of}
 use Rattle.abc_unify.proofs.Among.{are_in_place, among_place, place_among}
 use Rattle.abc_unify.proofs.cycle.first_not_done.Goals as goal
 

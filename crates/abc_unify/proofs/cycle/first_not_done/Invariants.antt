@@ -1,5 +1,5 @@
 use Rattle.std.proofs.Common.{ℕ, ◌<◌, ◌≤◌, get_or}
-use Rattle.abc_unify.specs.Slots.{root_of}
+use Rattle.abc_unify.specs.inner.Slots.{root_of}
 use Rattle.abc_unify.proofs.cycle.first_not_done.Given as goal
 
 abbrev pub invariant-loop-i : goal.invariant-loop-i

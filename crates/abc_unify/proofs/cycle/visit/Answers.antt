@@ -1,5 +1,5 @@
 use Rattle.std.proofs.Common.{◌≡◌, ◌++◌, ◌∷◌, [], ◌<◌, ap, length, get_or, set, get_or-set_same, rules, arith}
-use Rattle.abc_unify.specs.Cycles.{Marked}
+use Rattle.abc_unify.specs.inner.Cycles.{Marked}
 use Rattle.abc_unify.proofs.Walking.{marked_push, marked_pop, go_down, closed_cycle, lighter_pop, top_mark, top_inside, at_least_set}
 use Rattle.abc_unify.proofs.cycle.visit.Goals as goal
 

@@ -1,6 +1,6 @@
 use Rattle.std.proofs.Common.{ℕ, ◌≤◌, get_or}
 use Rattle.std.specs.List.{sum_by}
-use Rattle.abc_unify.specs.Cycles.{Marked, mark_weight}
+use Rattle.abc_unify.specs.inner.Cycles.{Marked, mark_weight}
 use Rattle.abc_unify.proofs.cycle.visit.Given as goal
 
 abbrev pub invariant-loop-top : goal.invariant-loop-top

@@ -1,8 +1,8 @@
 use Rattle.std.proofs.Common.{◌≡◌, ◌∙◌, ℕ, ◌≤◌, [], get_or, ap, sym, subst, inl, inr, arith}
 use Rattle.std.proofs.lemmas.Bool.{cases_lt}
 use Rattle.std.proofs.lemmas.List.{get_or_read}
-use Rattle.abc_unify.specs.Slots.{root_of}
-use Rattle.abc_unify.specs.Cycles.{Marked, IsVisit}
+use Rattle.abc_unify.specs.inner.Slots.{root_of}
+use Rattle.abc_unify.specs.inner.Cycles.{Marked, IsVisit}
 use Rattle.abc_unify.proofs.cycle.visit_all.Goals as goal
 
 pub loop-i-preserved : goal.loop-i-preserved

@@ -1,7 +1,7 @@
 use Rattle.std.proofs.Common.{ℕ, ◌≤◌, ◌<◌, [], get_or}
 use Rattle.abc_unify.specs.declared.log.Entry.{Entry}
-use Rattle.abc_unify.specs.Slots.{root_of}
-use Rattle.abc_unify.specs.Cycles.{Marked}
+use Rattle.abc_unify.specs.inner.Slots.{root_of}
+use Rattle.abc_unify.specs.inner.Cycles.{Marked}
 use Rattle.abc_unify.proofs.cycle.visit_all.Given as goal
 
 abbrev pub invariant-loop-i : goal.invariant-loop-i

@@ -1,6 +1,6 @@
 use Rattle.std.proofs.Common.{◌≡◌, ◌∙◌, ◌≤◌, ◌++◌, ◌+◌, ◌∷◌, [], length, take, drop, ap, arith}
 use Rattle.std.proofs.Math.ListN.{length-append, length-set}
-use Rattle.abc_unify.specs.Logs.{rolled, EntryIn}
+use Rattle.abc_unify.specs.inner.Logs.{rolled, EntryIn}
 use Rattle.abc_num.proofs.Parts.{All-front}
 use Rattle.abc_unify.proofs.Logging.{popped, taken}
 use Rattle.abc_unify.proofs.log.roll_back.Goals as goal

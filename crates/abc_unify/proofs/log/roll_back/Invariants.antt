@@ -1,6 +1,6 @@
 use Rattle.std.proofs.Common.{◌≡◌, ◌≤◌, length, take, drop}
 use Rattle.std.specs.List.{All}
-use Rattle.abc_unify.specs.Logs.{rolled, EntryIn}
+use Rattle.abc_unify.specs.inner.Logs.{rolled, EntryIn}
 use Rattle.abc_unify.proofs.log.roll_back.Given as goal
 
 abbrev pub invariant-loop-log : goal.invariant-loop-log

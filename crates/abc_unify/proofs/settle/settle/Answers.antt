@@ -1,7 +1,7 @@
 use Rattle.std.proofs.Common.{◌≡◌, ◌∙◌, ◌-◌, ◌++◌, length, take, drop, true, subst, rules}
 use Rattle.abc_unify.proofs.Steps.{keeps_then}
-use Rattle.abc_unify.specs.Logs.{IsLogged}
-use Rattle.abc_unify.specs.Cycles.{IsSearched}
+use Rattle.abc_unify.specs.inner.Logs.{IsLogged}
+use Rattle.abc_unify.specs.inner.Cycles.{IsSearched}
 use Rattle.abc_unify.proofs.Logging.{logged_then, since}
 use Rattle.abc_unify.proofs.Ranking.{ranked_after}
 use Rattle.abc_unify.proofs.settle.settle.Goals as goal

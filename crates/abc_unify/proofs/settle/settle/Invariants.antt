@@ -1,6 +1,6 @@
 use Rattle.std.proofs.Common.{◌≡◌, []}
-use Rattle.abc_unify.specs.Slots.{SlotsIn, KeepsSolutions, weight}
-use Rattle.abc_unify.specs.Logs.{IsLogged}
+use Rattle.abc_unify.specs.inner.Slots.{SlotsIn, KeepsSolutions, weight}
+use Rattle.abc_unify.specs.inner.Logs.{IsLogged}
 use Rattle.abc_unify.proofs.settle.settle.Given as goal
 
 abbrev pub invariant-loop-top : goal.invariant-loop-top

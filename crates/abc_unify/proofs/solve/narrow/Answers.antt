@@ -2,7 +2,7 @@ use Rattle.std.proofs.Common.{length}
 use Rattle.std.proofs.Math.ListN.{length-set}
 use Rattle.std.proofs.lemmas.List.Elements.{All-append}
 use Rattle.abc_unify.specs.declared.kind.Slot.TheVariants.{Root}
-use Rattle.abc_unify.specs.Kinds.{AskIn, KindIn, asks_of}
+use Rattle.abc_unify.specs.inner.Kinds.{AskIn, KindIn, asks_of}
 use Rattle.abc_unify.proofs.Steps.{keep_keeps, narrow_keeps, narrow_clash, met_asks, more_in, kind_in, keep_lighter, put_lighter, SlotsIn-set}
 use Rattle.abc_unify.proofs.solve.narrow.Goals as goal
 

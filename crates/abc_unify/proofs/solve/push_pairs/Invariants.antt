@@ -1,5 +1,5 @@
 use Rattle.std.proofs.Common.{◌≡◌, ◌++◌, take}
-use Rattle.abc_unify.specs.Kinds.{pairs}
+use Rattle.abc_unify.specs.inner.Kinds.{pairs}
 use Rattle.abc_unify.proofs.solve.push_pairs.Given as goal
 
 abbrev pub invariant-loop-i : goal.invariant-loop-i

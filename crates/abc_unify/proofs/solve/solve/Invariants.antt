@@ -1,7 +1,7 @@
 use Rattle.std.proofs.Common.{◌≤◌, length}
-use Rattle.abc_unify.specs.Kinds.{AsksIn}
-use Rattle.abc_unify.specs.Slots.{SlotsIn, KeepsSolutions, weight}
-use Rattle.abc_unify.specs.Logs.{IsLogged}
+use Rattle.abc_unify.specs.inner.Kinds.{AsksIn}
+use Rattle.abc_unify.specs.inner.Slots.{SlotsIn, KeepsSolutions, weight}
+use Rattle.abc_unify.specs.inner.Logs.{IsLogged}
 use Rattle.abc_unify.proofs.solve.solve.Given as goal
 
 abbrev pub invariant-loop-ask : goal.invariant-loop-ask

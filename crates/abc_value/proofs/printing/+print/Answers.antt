@@ -4,7 +4,7 @@ use Rattle.std.specs.Prelude.{codes}
 use Rattle.abc_value.specs.Tree.{trees, pairs}
 use Rattle.abc_value.specs.View.{as_pair}
 use Rattle.abc_value.specs.Printed.{joined, display, displays, pair_display, pair_displays}
-use Rattle.abc_value.specs.Printing.{lead}
+use Rattle.abc_value.specs.inner.Printing.{lead}
 use Rattle.abc_value.specs.declared.value.Entry.{Entry}
 use Rattle.abc_value.specs.Sizes.{height_of}
 use Rattle.abc_value.proofs.Comparing.{part_below, entry_below}

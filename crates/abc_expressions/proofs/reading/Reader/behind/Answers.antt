@@ -1,5 +1,5 @@
 use Rattle.std.proofs.Common.{refl, ap, sym, ◌∙◌, ◌∷◌}
-use Rattle.abc_expressions.specs.Machine.{settled, settles}
+use Rattle.abc_expressions.specs.inner.Machine.{settled, settles}
 use Rattle.abc_expressions.proofs.ReaderSteps.{steps_along, goes, at_none, at_between, at_before, at_inside, opens_same}
 use Rattle.abc_expressions.proofs.reading.Reader.behind.Goals as goal
 

@@ -1,6 +1,6 @@
 use Rattle.std.proofs.Common.{◌≡◌, ◌≤◌, ◌+◌, length}
-use Rattle.abc_expressions.specs.Machine.{Next, reach}
-use Rattle.abc_expressions.specs.Steps.{behind, opens}
+use Rattle.abc_expressions.specs.inner.Machine.{Next, reach}
+use Rattle.abc_expressions.specs.inner.Steps.{behind, opens}
 use Rattle.abc_expressions.proofs.reading.Reader.behind.Given as goal
 
 abbrev pub invariant-loop-self : goal.invariant-loop-self

@@ -1,5 +1,5 @@
 use Rattle.std.proofs.Common.{◌≡◌, length}
-use Rattle.abc_expressions.specs.Machine.{finished}
+use Rattle.abc_expressions.specs.inner.Machine.{finished}
 use Rattle.abc_expressions.proofs.reading.Reader.finish.Given as goal
 
 abbrev pub invariant-loop-infix : goal.invariant-loop-infix

@@ -1,5 +1,5 @@
 use Rattle.std.proofs.Common.{rules}
-use Rattle.abc_session.specs.Reading.{shown}
+use Rattle.abc_session.specs.inner.Reading.{shown}
 use Rattle.abc_session.proofs.LineParts.{added}
 use Rattle.abc_session.proofs.line.Line.add.Goals as goal
 

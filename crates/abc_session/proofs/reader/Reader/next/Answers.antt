@@ -1,7 +1,7 @@
 use Rattle.std.proofs.Common.{rules, ◌≡◌, ◌<◌, ◌+◌, ◌-◌, ◌++◌, ◌∷◌, ◌∙◌, true, false, [], length, take, nat_lt, sym, ap, refl}
 use Rattle.abc_outside.proofs.Leaves.{run_after}
 use Rattle.abc_session.specs.Lines.{lines_by}
-use Rattle.abc_session.specs.Reading.{shown, pending_of, TookPart, WantsMore, AsksMore}
+use Rattle.abc_session.specs.inner.Reading.{shown, pending_of, TookPart, WantsMore, AsksMore}
 use Rattle.abc_session.proofs.Started.{IsStarted, found, uses, if_found, went_on, read_on, wants, ends_empty, ends_line, last_found, none_left}
 use Rattle.abc_session.specs.Asking.{Asked, next_ask}
 use Rattle.abc_session.proofs.Asks.{asks_more, rising_read}

@@ -2,7 +2,7 @@ use Rattle.std.proofs.Common.{◌≡◌, ◌≤◌, ◌+◌, ◌-◌, ◌*◌, L
 use Rattle.abc_outside.specs.Outside.{KeepsButInput}
 use Rattle.abc_outside.specs.Stop.{Leaves}
 use Rattle.abc_num.specs.declared.limits.TheConstants.{MOST_LINE_BYTES}
-use Rattle.abc_session.specs.Reading.{shown, pending_of, used_of, AsksMore}
+use Rattle.abc_session.specs.inner.Reading.{shown, pending_of, used_of, AsksMore}
 use Rattle.abc_session.specs.Asking.{Asked, AskedRising, next_ask}
 use Rattle.abc_session.proofs.Started.{IsStarted}
 use Rattle.abc_session.proofs.reader.Reader.next.Given as goal

@@ -1,5 +1,5 @@
 use Rattle.std.proofs.Common.{rules, ◌-◌, ℕ, List, take, drop, ap}
-use Rattle.abc_session.specs.Reading.{shown}
+use Rattle.abc_session.specs.inner.Reading.{shown}
 use Rattle.abc_session.proofs.Pieces.{found_part, whole_part}
 use Rattle.abc_session.proofs.reader.Reader.take_part.Goals as goal
 

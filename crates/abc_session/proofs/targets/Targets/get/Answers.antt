@@ -1,6 +1,6 @@
 use Rattle.std.proofs.Common.{◌≡◌, ◌∙◌, sym, ap, subst}
 use Rattle.abc_session.specs.Targets.{value_of, IsNumber}
-use Rattle.abc_session.specs.TargetsView.{entries_of}
+use Rattle.abc_session.specs.inner.TargetsView.{entries_of}
 use Rattle.std.specs.Prelude.{IfSome}
 use Rattle.abc_session.proofs.Entries.{value_at, number_at}
 use Rattle.abc_session.proofs.targets.Targets.get.Goals as goal

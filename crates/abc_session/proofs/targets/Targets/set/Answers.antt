@@ -3,7 +3,7 @@ use Rattle.std.specs.Int.{w128}
 use Rattle.std.specs.Prelude.{map}
 use Rattle.std.specs.Global.{Global}
 use Rattle.abc_session.specs.Targets.{with_value, AreNumbers}
-use Rattle.abc_session.specs.TargetsView.{entries_of}
+use Rattle.abc_session.specs.inner.TargetsView.{entries_of}
 use Rattle.abc_session.proofs.Entries.{with_entry, numbers_with}
 use Rattle.abc_session.proofs.targets.Targets.set.Goals as goal
 

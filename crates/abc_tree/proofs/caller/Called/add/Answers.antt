@@ -1,7 +1,7 @@
 use Rattle.std.proofs.Common.{◌∙◌, sym, ap, subst, false, List}
 use Rattle.std.specs.List.{insert}
 use Rattle.abc_tree.specs.Ordered.{RiseBy}
-use Rattle.abc_tree.specs.Search.{IsAt, IsGap}
+use Rattle.abc_tree.specs.inner.Search.{IsAt, IsGap}
 use Rattle.abc_tree.specs.declared.templates.Template.{Template}
 use Rattle.abc_tree.proofs.Rising.{older_at, placed_in_gap, rise_placed}
 use Rattle.abc_tree.proofs.caller.Called.add.Goals as goal

@@ -1,7 +1,7 @@
 use Rattle.std.proofs.Common.{◌≡◌, length}
 use Rattle.abc_num.specs.Text.{text_cmp}
 use Rattle.abc_tree.specs.Templates.{template_cmp}
-use Rattle.abc_tree.specs.TemplatesView.{letters_of}
+use Rattle.abc_tree.specs.inner.TemplatesView.{letters_of}
 use Rattle.abc_tree.proofs.templates.Template.cmp.Given as goal
 
 abbrev pub invariant-letters : goal.invariant-letters

@@ -1,6 +1,6 @@
 use Rattle.std.proofs.Common.{◌≡◌, ◌++◌, length}
 use Rattle.abc_tree.specs.Templates.{template_text}
-use Rattle.abc_tree.specs.TemplatesView.{letters_of}
+use Rattle.abc_tree.specs.inner.TemplatesView.{letters_of}
 use Rattle.abc_tree.proofs.templates.Template.text.Given as goal
 
 abbrev pub invariant-letters : goal.invariant-letters

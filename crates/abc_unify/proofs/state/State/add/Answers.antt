@@ -1,6 +1,6 @@
 use Rattle.std.proofs.Common.{◌≡◌, ◌∙◌, ◌++◌, ◌∷◌, [], length, ap, rules}
-use Rattle.abc_unify.specs.Slots.{KeepsSolutions, HasNoSolution}
-use Rattle.abc_unify.specs.Logs.{IsLogged}
+use Rattle.abc_unify.specs.inner.Slots.{KeepsSolutions, HasNoSolution}
+use Rattle.abc_unify.specs.inner.Logs.{IsLogged}
 use Rattle.abc_unify.proofs.Solved.{whole, solved_with, clash_with}
 use Rattle.abc_unify.proofs.Undoing.{kept_demand, seen_demand}
 use Rattle.abc_unify.proofs.state.State.add.Goals as goal

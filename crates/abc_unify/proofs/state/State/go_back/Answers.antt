@@ -1,7 +1,7 @@
 use Rattle.std.proofs.Common.{◌≡◌, ◌∙◌, length, take, drop, get_or, ap, sym, subst, refl, rules}
 use Rattle.abc_unify.specs.declared.state.Point.{Point}
-use Rattle.abc_unify.specs.Logs.{rolled}
-use Rattle.abc_unify.specs.States.{IsPast}
+use Rattle.abc_unify.specs.inner.Logs.{rolled}
+use Rattle.abc_unify.specs.inner.States.{IsPast}
 use Rattle.abc_unify.proofs.Solved.{whole}
 use Rattle.abc_unify.proofs.Undoing.{kept_back, seen_back}
 use Rattle.abc_unify.proofs.state.State.go_back.Goals as goal

@@ -1,0 +1,7 @@
+-- Steps of the code, in words that no public clause uses.
+pub mod AddressSteps
+pub mod Heights
+pub mod Machine
+pub mod Numbers
+pub mod Splitting
+pub mod Steps

@@ -1,0 +1,6 @@
+-- Steps of the code, in words that no public clause uses.
+pub mod Cycles
+pub mod Kinds
+pub mod Logs
+pub mod Slots
+pub mod States
