@@ -19,3 +19,7 @@ pub mod Spelling
 pub mod Tails
 pub mod Parts
 pub mod Texts
+pub mod Characters
+pub mod Computed
+pub mod LineCuts
+pub mod Proper

@@ -1,5 +1,5 @@
 -- What holds of the elements of lists: of those of two lists in a row, and what follows for each.
-use Rattle.std.proofs.Common.{◌+◌, List, [], ◌∷◌, ◌++◌, length, get_or, subst, arith, length-append}
+use Rattle.std.proofs.Common.{◌+◌, List, [], ◌∷◌, ◌++◌, length, subst, arith, length-append}
 use Rattle.std.specs.Prelude.{All}
 use Rattle.std.specs.List.{AllByRecursion}
 use Rattle.std.proofs.Math.ListN.{get_or-append}

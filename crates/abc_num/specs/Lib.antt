@@ -1,5 +1,7 @@
 pub mod formers
+pub mod Characters
 pub mod Limits
+pub mod Lines
 pub mod Literal
 pub mod Names
 pub mod Number

@@ -4,6 +4,7 @@
 mod arithmetic;
 mod boxed;
 mod items;
+mod laws;
 pub mod limits;
 mod lines;
 mod literal;
@@ -19,7 +20,8 @@ mod types;
 
 pub use boxed::Boxed;
 pub use items::Items;
-pub use lines::{ItemLines, Line};
+pub use laws::{characters_are_tested, proper_types, ratios_are_computed};
+pub use lines::{ItemLines, Line, RawLine, lines_are_cut};
 pub use literal::{BadNumber, read_literal};
 pub use memory::OutOfMemory;
 pub use names::Names;

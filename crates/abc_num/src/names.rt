@@ -71,4 +71,15 @@ impl Names {
     {
         self.texts.len()
     }
+
+    /// The same texts with the same numbers.
+    pub fn copy(&self, alloc: Global) -> Result<Names, OutOfMemory>
+        ensures { IfOk result (λ names. names ≡ self.now) }
+    {
+        let mut texts = IndexSet::with_capacity(alloc, self.texts.len())?;
+        for text in self.texts.as_slice() {
+            texts.insert(Text::of(alloc, text.bytes())?)?;
+        }
+        Ok(Names { texts })
+    }
 }

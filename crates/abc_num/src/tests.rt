@@ -1,6 +1,7 @@
 //! What no clause says: that ample memory is enough, and worked values.
 ghost use Rattle.std.specs.Prelude.{◌≡◌, IfOk};
 
+mod lines;
 mod numbers;
 mod operations;
 
@@ -92,6 +93,9 @@ fn names_are_numbered_in_order(rt: HostRuntime) -> Result<(), OutOfMemory> {
     assert_eq!(rt; names.find(&Text::of(alloc, b"c")?), None);
     assert!(rt; matches!(names.get(1), Some(text) if text.bytes() == b"b".as_slice()));
     assert!(rt; names.get(4).is_none());
+    let copy = names.copy(alloc)?;
+    assert_eq!(rt; copy.len(), 4);
+    assert_eq!(rt; copy.find(&Text::of(alloc, b"")?), Some(2));
     Ok(())
 }
 
@@ -104,10 +108,11 @@ fn lines_and_types_are_held(rt: HostRuntime) -> Result<(), OutOfMemory> {
         text: Text::of(alloc, b"PASS")?,
         long: false,
     })?;
-    let Some(line) = lines.get(0) else {
+    let copies = lines.copy(alloc)?;
+    let Some(line) = copies.get(0) else {
         panic!(rt; "no line")
     };
-    assert!(rt; line.indent == 2 && !line.long);
+    assert!(rt; line.indent == 2 && !line.long && line.text.bytes() == b"PASS".as_slice());
     let mut fields: Grounds = Items::new(alloc);
     fields.push(Ground::Number)?;
     fields.push(Ground::List(Boxed::new(alloc, Ground::Text)?))?;
@@ -115,7 +120,7 @@ fn lines_and_types_are_held(rt: HostRuntime) -> Result<(), OutOfMemory> {
         Boxed::new(alloc, Ground::Text)?,
         Boxed::new(alloc, Ground::Compound(fields))?,
     );
-    let Ground::Table(_, associate) = table else {
+    let Ground::Table(_, associate) = table.copy(alloc)? else {
         panic!(rt; "no table")
     };
     assert!(rt; matches!(associate.get(), Ground::Compound(_)));
