@@ -62,7 +62,7 @@ opens zero = (refl, refl, refl)
 opens (suc n) = (refl, refl, refl)
 
 -- a sign that is no bracket
-stays : Sign → Bool
+unfoldable pub stays : Sign → Bool
 stays s.Open = false
 stays s.Close = false
 stays s.Bracket = false
@@ -82,7 +82,7 @@ stays_behind n s.Unbrace h = cc
 stays_behind zero _ h = refl
 stays_behind (suc n) _ h = refl
 
-stays_among : (sign : Sign) (among : List Sign) → stays sign ≡ true → opened_by sign among ≡ among
+pub stays_among : (sign : Sign) (among : List Sign) → stays sign ≡ true → opened_by sign among ≡ among
 unfolding stays
 stays_among s.Open among h = cc
 stays_among s.Close among h = cc

@@ -26,7 +26,7 @@ stops_single leaves own d n a [] end = refl
 stops_single leaves own d n a (token ∷ ts) end =
     ap (λ x. taken x (run leaves own ts) d (f.Inside n grp.Single ∷ []) n a (Some (a, token ∷ ts))) (stays_out own token ts n n end)
 
-front_found : OneReading → (own : List (List ℕ)) (d n : ℕ) (ts : List Lexeme) (a : Expr) (rest : List Lexeme) → IsFront own d n ts a rest
+pub front_found : OneReading → (own : List (List ℕ)) (d n : ℕ) (ts : List Lexeme) (a : Expr) (rest : List Lexeme) → IsFront own d n ts a rest
     → tree_at n grp.Single (reader own d) own d ts ≡ Some (a, rest)
 front_found law own d n ts a rest h =
     complete law h.0 d n (f.Inside n grp.Single ∷ []) (omega arith) (omega arith) (follows own n rest h.1) ∙ stops_single (reader own d) own d n a rest h.1

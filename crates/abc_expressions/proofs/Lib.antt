@@ -16,3 +16,8 @@ pub mod Spelled
 pub mod AddressLaws
 pub mod AddressNames
 pub mod WholeLine
+pub mod NamesUsed
+pub mod AddressNumbers
+pub mod TableFacts
+pub mod RegularSpellings
+pub mod FineTokens

@@ -11,8 +11,8 @@ use Rattle.abc_num.proofs.Digits.{power-positive}
 use Rattle.abc_num.proofs.Divisors.{factor_positive}
 use Rattle.abc_num.proofs.LowestTerms.{parts_coprime, same_parts, number-from_parts}
 use Rattle.abc_num.proofs.Ratios.{pos_ne}
-use Rattle.abc_predef.specs.Numbers.{gcd, are_within, ratio}
-use Rattle.abc_predef.proofs.Ratios.{gcd_is, parts_within, ratio_is}
+use Rattle.abc_num.specs.Ratio.{gcd, are_within, ratio}
+use Rattle.abc_num.proofs.Computed.{gcd_is, parts_within, ratio_is}
 use Rattle.abc_expressions.specs.Grammar.{IsValueOf}
 use Rattle.abc_expressions.specs.inner.Numbers.{number_at}
 

@@ -10,7 +10,7 @@ use Rattle.abc_tree.specs.declared.operations.Op.TheVariants as op
 use Rattle.abc_expressions.specs.declared.texts.Part.TheVariants as part
 use Rattle.abc_expressions.specs.Grammar.{own_name, paired}
 use Rattle.abc_expressions.specs.Operators.{kind_of, nullary, unary, binary}
-use Rattle.abc_predef.specs.Numbers.{gcd_within, gcd, ratio}
+use Rattle.abc_num.specs.Ratio.{gcd_within, gcd, ratio}
 use Rattle.abc_expressions.specs.inner.Numbers.{number_at}
 use Rattle.abc_expressions.specs.inner.Machine.{read_tokens, converter, run, popped, finished, reach, lexed, has_bare, conversion_from, split, split_text}
 

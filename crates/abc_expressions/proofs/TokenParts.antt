@@ -1,5 +1,5 @@
 -- Tokens of a line stand within it, and numbers among them are spelled as numbers.
-use Rattle.std.proofs.Common.{◌≡◌, ℕ, ◌+◌, ◌-◌, Bool, true, false, List, ◌++◌, All, get_or, map, Option, Some, None, refl}
+use Rattle.std.proofs.Common.{◌≡◌, ℕ, Bool, true, false, List, ◌++◌, All, get_or, map, Option, Some, None, refl}
 use Rattle.std.specs.List.{slice_range}
 use Rattle.std.proofs.lemmas.List.Elements.{All-map}
 use Rattle.abc_tokens.specs.declared.kinds.Token.{Token}

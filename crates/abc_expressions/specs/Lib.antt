@@ -7,3 +7,6 @@ pub mod Texts
 pub mod Grammar
 pub mod Fronts
 pub mod Addresses
+pub mod Readings
+pub mod NameTokens
+pub mod NamesOfTrees

@@ -1,18 +1,19 @@
 //! The calls for addresses.
-ghost use Rattle.std.specs.Prelude.{◌≡◌, ◌≤◌, ◌<◌, ◌-◌, ◌^◌, [], Err, IfOk, OnOk, length, map};
+ghost use Rattle.std.specs.Prelude.{◌≡◌, ◌≤◌, ◌<◌, ◌-◌, ◌^◌, [], Err, IfOk, OnOk, All, length, map};
 ghost use Rattle.abc_num.specs.declared.limits.TheConstants.{MOST_BRACKETS, MOST_LINE_BYTES, MOST_TREE_HEIGHT};
 ghost use Rattle.abc_tree.specs.Height.{height};
 ghost use Rattle.abc_tree.specs.Regular.{is_address, every};
 ghost use Rattle.abc_tree.specs.declared.formulas.Expr.{Expr};
 ghost use Rattle.abc_expressions.specs.Addresses.{SpelledAddress, names_of_address};
 ghost use Rattle.abc_expressions.specs.inner.AddressSteps.{depth_behind, depth_by, names_behind};
-ghost use Rattle.abc_expressions.specs.Lexemes.{seen, ArePart};
+ghost use Rattle.abc_expressions.specs.Lexemes.{seen, ArePart, IsSpelled};
+ghost use Rattle.abc_expressions.specs.Readings.{address_of, Answers};
 
 use crate::FormulaFault;
+use crate::expressions::whole_expression;
 use crate::height::is_higher;
 use crate::lexemes::{Lexeme, lexemes_of};
 use crate::signs::Sign;
-use crate::whole_expression::whole_tree;
 use abc_num::limits::MOST_TREE_HEIGHT;
 use abc_num::{Names, OutOfMemory, Text};
 use abc_tokens::{Token, one_reading};
@@ -51,13 +52,32 @@ fn are_addresses(parts: &[Expr]) -> bool
     true
 }
 
-/// The one address that these tokens of the line spell, with these own names. BadCommand exactly where they spell none,
-/// TooMany exactly where the tree is higher than `MOST_TREE_HEIGHT`.
+/// The one address that these tokens spell, with these own names, however high. BadCommand exactly where they spell none, and
+/// never TooMany.
 ///
 /// ```text
 /// A  = A1 | A1 , A1 , .. , A1
 /// A1 = own name | A1 [ C ] | ( A )
 /// ```
+#[tactic(auto, unfolding(crate::specs::Readings::address_of))]
+pub fn whole_address(alloc: Global, own: &Names, tokens: &[Lexeme]) -> Result<Expr, FormulaFault>
+    requires { All IsSpelled tokens.now }
+    ensures read { Answers result (address_of own.now tokens.now) }
+    ensures found { IfOk result (λ a. SpelledAddress own.now MOST_BRACKETS a tokens.now []) }
+    ensures none { result ≡ Err FormulaFault.BadCommand → (a : Expr) → ¬ SpelledAddress own.now MOST_BRACKETS a tokens.now [] }
+    ensures low { ¬ (result ≡ Err FormulaFault.TooMany) }
+{
+    one_reading();
+    let tree = whole_expression(alloc, own, tokens)?;
+    if is_address(&tree) {
+        Ok(tree)
+    } else {
+        Err(FormulaFault::BadCommand)
+    }
+}
+
+/// The one address that these tokens of the line spell, with these own names. BadCommand exactly where they spell none,
+/// TooMany exactly where the tree is higher than `MOST_TREE_HEIGHT`.
 pub fn address(
     alloc: Global,
     toks: &[Token],
@@ -69,11 +89,8 @@ pub fn address(
     ensures none { result ≡ Err FormulaFault.BadCommand → (a : Expr) → ¬ SpelledAddress own.now MOST_BRACKETS a (map (seen line.now) toks.now) [] }
     ensures high { result ≡ Err FormulaFault.TooMany → (a : Expr) × SpelledAddress own.now MOST_BRACKETS a (map (seen line.now) toks.now) [] × (MOST_TREE_HEIGHT < height a) }
 {
-    one_reading();
-    let tree = whole_tree(alloc, toks, line, own)?;
-    if !is_address(&tree) {
-        return Err(FormulaFault::BadCommand);
-    }
+    let lexemes = lexemes_of(alloc, line, toks)?;
+    let tree = whole_address(alloc, own, lexemes.as_slice())?;
     if is_higher(&tree, MOST_TREE_HEIGHT) {
         return Err(FormulaFault::TooMany);
     }

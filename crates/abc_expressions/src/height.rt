@@ -6,9 +6,9 @@ ghost use Rattle.abc_expressions.specs.inner.Heights.{fill_height, piece_height,
 
 use abc_tree::{Expr, Fill, Pair, Piece};
 
-/// Whether the expression is higher than `most`.
+/// Whether the expression is higher than `most` levels. It takes no memory.
 #[cycle(height)]
-pub(crate) fn is_higher(tree: &Expr, most: u32) -> bool
+pub fn is_higher(tree: &Expr, most: u32) -> bool
     ensures { IsTrue result ↔ (most < height tree.now) }
 {
     match tree {

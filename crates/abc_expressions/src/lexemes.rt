@@ -2,7 +2,7 @@
 ghost use Rattle.std.specs.Prelude.{◌≡◌, ◌==◌, map, All, IfOk, IfSome, Some};
 ghost use Rattle.std.specs.List.{list_all};
 ghost use Rattle.abc_tokens.specs.Bytes.{space};
-ghost use Rattle.abc_expressions.specs.Lexemes.{seen, IsWithin, IsSpelled};
+ghost use Rattle.abc_expressions.specs.Lexemes.{seen, ArePart, IsWithin, IsSpelled};
 ghost use Rattle.abc_expressions.specs.inner.Machine.{has_bare, lexed};
 ghost use Rattle.abc_expressions.specs.Texts.{end_of, is_bare};
 
@@ -38,14 +38,16 @@ fn lexeme_at(alloc: Global, line: &[u8], token: Token) -> Result<Lexeme, OutOfMe
     }
 }
 
-/// What the grammar sees of these tokens of the line.
+/// What the grammar sees of these tokens of the line, in time proportional to the length of the line. Those of a line
+/// without a fault are spelled as the readings want them.
 pub fn lexemes_of(
     alloc: Global,
     line: &[u8],
     tokens: &[Token],
 ) -> Result<Items<Lexeme>, OutOfMemory>
     requires { All (IsWithin line.now) tokens.now }
-    ensures { IfOk result (λ ls. ls ≡ map (seen line.now) tokens.now) }
+    ensures seen { IfOk result (λ ls. ls ≡ map (seen line.now) tokens.now) }
+    ensures spelled { ArePart line.now tokens.now → IfOk result (All IsSpelled) }
 {
     let mut lexemes = Items::new(alloc);
     for token in tokens {

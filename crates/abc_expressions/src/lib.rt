@@ -2,6 +2,7 @@
 #![tactic(auto)]
 
 mod addresses;
+mod expressions;
 mod fault;
 mod frames;
 mod front;
@@ -14,17 +15,21 @@ mod reading;
 mod signs;
 mod texts;
 mod tree;
-mod whole_expression;
+mod used;
 
-pub use addresses::{address, address_names};
+pub use addresses::{address, address_names, whole_address};
+pub use expressions::{expression, single_expression, whole_expression};
 pub use fault::FormulaFault;
 pub use frames::{Frame, Group, Infix, Join, Kind, Reach, Turn};
 pub use front::tree_in_front;
-pub use height::{a_part_reaches, reaches};
-pub use laws::{address_form, conversion_end, one_address, one_expression};
+pub use height::{a_part_reaches, is_higher, reaches};
+pub use laws::{
+    address_form, address_numbers, computed_address, computed_expression, computed_single,
+    conversion_end, fine_tokens, one_address, one_expression, spelled_regular,
+};
 pub use lexemes::{Lexeme, lexemes_of};
 pub use make::with_last;
 pub use names::{kind_of, sign_of};
 pub use signs::Sign;
 pub use tree::ExpressionFront;
-pub use whole_expression::expression;
+pub use used::{name_tokens, used_names};

@@ -1,4 +1,6 @@
-//! Reading tokens: a loop over them, with a stack of what waits for its last operand.
+//! Reading tokens by an operator-precedence parser with a stack of its own. A frame waits for its last operand: an operator,
+//! or an open bracket. A token behind an operand goes on with it where it binds tightly enough; else the frame on top is
+//! reduced. So no function calls itself, and time is proportional to the number of tokens.
 ghost use Rattle.std.specs.Prelude.{◌≡◌, ◌+◌, ◌<◌, ◌≤◌, [], ◌∷◌, List, suc};
 ghost use Rattle.abc_expressions.specs.inner.Machine.{opened, displayed, wanted, taken, settled, settles, at_pair, at_colon, finished, whole_found, wholly};
 ghost use Rattle.abc_expressions.specs.inner.Steps.{Steps, behind, opens, Counts, Gives};
@@ -100,7 +102,7 @@ impl Reader {
     }
 
     /// The last operand of a group, at the sign behind it.
-    fn settle(&mut self, least: u8, group: Group, sign: Sign, a: Expr) -> Result<Step, FormulaFault>
+    fn reduce(&mut self, least: u8, group: Group, sign: Sign, a: Expr) -> Result<Step, FormulaFault>
         requires counted { self.old.left + opens (Inside least group ∷ self.old.stack) ≤ self.old.most }
         ensures steps { (here : List Lexeme) → Steps here (λ next. settles (settled group sign a) next self.old.left self.old.stack least here) result self.new.left self.new.stack }
         ensures counts { Counts self.old.most result self.new.left self.new.stack }
@@ -158,7 +160,7 @@ impl Reader {
                     least = outer;
                 }
                 Some(Frame::Inside(outer, group)) => {
-                    return self.settle(outer, group, sign_of(token), a);
+                    return self.reduce(outer, group, sign_of(token), a);
                 }
             }
         }

@@ -5,3 +5,7 @@ pub mod TestParts
 pub mod TestSound
 pub mod TestTurns
 pub mod NameTurns
+pub mod BoundLaws
+pub mod BoundNumbers
+pub mod PredicateLaws
+pub mod RegularTests

@@ -1,6 +1,7 @@
 -- What spells a test is read as that test.
 use Rattle.std.proofs.Common.{◌≡◌, ℕ, zero, suc, ◌≤◌, ◌<◌, ◌⊎◌, inl, inr, Bool, true, false, ◌&&◌, List, [], ◌∷◌, ◌++◌, Some, None, refl, ap, arith, sym, ◌∙◌, subst, length}
-use Rattle.std.specs.Prelude.{codes, if◌then◌else◌}
+use Rattle.std.specs.Prelude.{codes, nat_le, ◌==◌, if◌then◌else◌}
+use Rattle.std.proofs.lemmas.Bool.{ne_eqb, le-leb}
 use Rattle.std.proofs.lemmas.List.{append_assoc}
 use Rattle.abc_num.specs.Text.{text_eq}
 use Rattle.abc_tree.specs.declared.formulas.Bound.{Bound}
@@ -27,12 +28,14 @@ use Rattle.abc_formula.specs.declared.test_frames.Place.{Place}
 use Rattle.abc_formula.specs.declared.test_frames.Place.TheVariants as place
 use Rattle.abc_formula.specs.declared.test_frames.Behind.TheVariants as behind
 use Rattle.abc_formula.specs.declared.test_frames.Front.TheVariants as front
+use Rattle.abc_formula.specs.declared.test_frames.NamesEnd.{NamesEnd}
+use Rattle.abc_formula.specs.declared.test_frames.NamesEnd.TheVariants as end
 use Rattle.abc_expressions.specs.Operators.{kind_of, infix_by, leftward}
 use Rattle.abc_expressions.specs.Grammar.{Spells, own_name}
 use Rattle.abc_expressions.specs.inner.Machine.{reader, reach_by, reach, sign_of}
 use Rattle.abc_tokens.proofs.Faults.{OneReading}
 use Rattle.abc_formula.specs.TestGrammar.{is_keyword, quantifier_of, relation_of, membership_of, membership_by, link, is_round, gathered, takes_and, takes_or, Binds, last_name, more_names, BindsPart, one_name, round_names, Relates, last_link, more_links, Tests, alone, negated, quantified, both, either, Parted, round, chain, member, call, refinement}
-use Rattle.abc_formula.specs.inner.TestMachine.{FoundTest, Groups, onward, name_read, behind_name, names_end, names_in, expression_of, FoundLinks, linked, links_by, links_in, lone_by, before, lone, chained, contained, part_by, part_of, Reads, closed, rounded, tight, wrapped, from_keyword, has_test, front_by, front_of, behind_of, joined, from_front, test_in}
+use Rattle.abc_formula.specs.inner.TestMachine.{FoundTest, Groups, onward, name_read, behind_name, ends, is_end, names_end, names_in, FoundNames, expression_of, FoundLinks, linked, links_by, links_in, lone_by, before, lone, chained, contained, part_by, part_of, Reads, closed, rounded, tight, wrapped, from_keyword, has_test, front_by, front_of, behind_of, joined, from_front, test_in}
 use Rattle.abc_formula.proofs.TestParts.{shorter, front_expression, Ends, expression_found, keyword_is, end_keyword, end_by_relation}
 
 -- ---- keywords
@@ -154,36 +157,53 @@ end_by_membership own t.Other o h = refl
 
 -- ---- names
 
-module _ (own : List (List ℕ)) where
+many_enough : (fewest n : ℕ) (found : FoundNames) → fewest ≤ n → (if nat_le fewest n then found else None) ≡ found
+many_enough fewest n found many = ap (λ c. if c then found else None) (le-leb fewest n many)
+
+-- a comma ends no names, nor does a bracket within others
+no_comma : (how : NamesEnd) (groups : Groups) → is_end how (t.Sign s.Comma) groups ≡ false
+no_comma end.In groups = refl
+no_comma end.Close groups = refl
+
+no_end : (how : NamesEnd) (names outer : List Bound) (groups : Groups) → is_end how (t.Sign s.Close) (names ∷ outer ∷ groups) ≡ false
+no_end end.In names outer groups = refl
+no_end end.Close names outer groups = ne_eqb (length (names ∷ outer ∷ groups)) 1 (λ e. absurd (omega (arith, e)))
+
+module _ (own : List (List ℕ)) (fewest : ℕ) (how : NamesEnd) where
   mutual
     unfolding names_in
 
-    names_read : {d : ℕ} {more : List Bound} {ts rest : List Lexeme} → Binds own d more ts rest → (so_far : List Bound) (groups : Groups)
-        → names_in own ts d (so_far ∷ groups) true ≡ names_in own rest d ((so_far ++ more) ∷ groups) false
+    names_read : {d : ℕ} {more : List Bound} {ts rest : List Lexeme} → Binds own fewest d more ts rest → (so_far : List Bound) (groups : Groups)
+        → names_in own fewest how ts d (so_far ∷ groups) true ≡ names_in own fewest how rest d ((so_far ++ more) ∷ groups) false
     names_read (last_name p) so_far groups = name_is_read p so_far groups
     names_read {d = d} {rest = rest} (more_names {a = a} {more = more} {us = us} p h) so_far groups =
-        name_is_read p so_far groups ∙ names_read h (so_far ++ a ∷ []) groups
-        ∙ ap (λ x. names_in own rest d (x ∷ groups) false) (append_assoc so_far (a ∷ []) more)
+        name_is_read p so_far groups ∙ ap (λ c. if c then names_end us ((so_far ++ a ∷ []) ∷ groups) else names_in own fewest how us d ((so_far ++ a ∷ []) ∷ groups) true) (no_comma how ((so_far ++ a ∷ []) ∷ groups))
+        ∙ names_read h (so_far ++ a ∷ []) groups
+        ∙ ap (λ x. names_in own fewest how rest d (x ∷ groups) false) (append_assoc so_far (a ∷ []) more)
 
-    name_is_read : {d : ℕ} {a : Bound} {ts rest : List Lexeme} → BindsPart own d a ts rest → (so_far : List Bound) (groups : Groups)
-        → names_in own ts d (so_far ∷ groups) true ≡ names_in own rest d ((so_far ++ a ∷ []) ∷ groups) false
-    name_is_read {d = d} {rest = rest} (one_name {i = i} {x = x} h) so_far groups = ap (λ k. name_read k (names_in own rest) d (so_far ∷ groups)) h
-    name_is_read (round_names {more = more} {ts = ts} {rest = rest} p) so_far groups = names_read p [] (so_far ∷ groups)
+    name_is_read : {d : ℕ} {a : Bound} {ts rest : List Lexeme} → BindsPart own fewest d a ts rest → (so_far : List Bound) (groups : Groups)
+        → names_in own fewest how ts d (so_far ∷ groups) true ≡ names_in own fewest how rest d ((so_far ++ a ∷ []) ∷ groups) false
+    name_is_read {d = d} {rest = rest} (one_name {i = i} {x = x} h) so_far groups = ap (λ k. name_read k (names_in own fewest how rest) d (so_far ∷ groups)) h
+    name_is_read (round_names {d = d} {more = more} {ts = ts} {rest = rest} many p) so_far groups =
+        names_read p [] (so_far ∷ groups)
+        ∙ ap (λ c. if c then names_end rest (more ∷ so_far ∷ groups) else behind_name fewest s.Close (names_in own fewest how rest) d (more ∷ so_far ∷ groups)) (no_end how more so_far groups)
+        ∙ many_enough fewest (length more) (names_in own fewest how rest (suc d) ((so_far ++ gathered more ∷ []) ∷ groups) false) many
 
-names_found : (own : List (List ℕ)) {d : ℕ} {names : List Bound} {token : Lexeme} {ts us : List Lexeme} → Binds own d names ts (token ∷ us) → is_keyword (codes "IN") token ≡ true
-    → names_in own ts d ([] ∷ []) true ≡ Some (gathered names, us)
+pub names_found : (own : List (List ℕ)) (fewest : ℕ) (how : NamesEnd) {d : ℕ} {names : List Bound} {token : Lexeme} {ts us : List Lexeme} → Binds own fewest d names ts (token ∷ us) → ends how token ≡ true
+    → names_in own fewest how ts d ([] ∷ []) true ≡ Some (names, us)
 unfolding names_in
-names_found own {d = d} {names = names} {token = token} {us = us} p h =
-    names_read own p [] [] ∙ ap (λ x. if x then names_end us (names ∷ []) else behind_name (sign_of token) (names_in own us) d (names ∷ [])) h
+names_found own fewest how {d = d} {names = names} {token = token} {us = us} p h =
+    names_read own fewest how p [] []
+    ∙ ap (λ x. if x && (length (names ∷ []) == 1) then names_end us (names ∷ []) else behind_name fewest (sign_of token) (names_in own fewest how us) d (names ∷ [])) h
 
 mutual
-  shorter_names : {own : List (List ℕ)} {d : ℕ} {more : List Bound} {ts rest : List Lexeme} → Binds own d more ts rest → length rest < length ts
+  shorter_names : {own : List (List ℕ)} {fewest d : ℕ} {more : List Bound} {ts rest : List Lexeme} → Binds own fewest d more ts rest → length rest < length ts
   shorter_names (last_name p) = shorter_name p
   shorter_names (more_names p h) = omega (arith, shorter_name p, shorter_names h)
 
-  shorter_name : {own : List (List ℕ)} {d : ℕ} {a : Bound} {ts rest : List Lexeme} → BindsPart own d a ts rest → length rest < length ts
+  shorter_name : {own : List (List ℕ)} {fewest d : ℕ} {a : Bound} {ts rest : List Lexeme} → BindsPart own fewest d a ts rest → length rest < length ts
   shorter_name (one_name h) = omega arith
-  shorter_name (round_names p) = omega (arith, shorter_names p)
+  shorter_name (round_names many p) = omega (arith, shorter_names p)
 
 -- ---- a token at least
 
@@ -336,8 +356,8 @@ module _ (law : OneReading) (own : List (List ℕ)) (c : ℕ) where
     complete_test {d = d} {p = p} (quantified {quantifier = quantifier} {names = names} {train = train} {t = token} {u = u} {v = v} {ts = ts} {us = us} {vs = vs} h binds i trained j q) (suc n) few deep stop =
         ap (λ x. from_front (reader own c) own (test_at n) n (front_by x (quantifier_of token)) p d (token ∷ ts)) (not_negation token quantifier h)
         ∙ ap (λ x. from_front (reader own c) own (test_at n) n (front_by false x) p d (token ∷ ts)) h
-        ∙ ap (λ x. onward x (λ names us. onward (expression_of (reader own c) own 1 d us) (λ train vs. has_test (test_at n) d (test.Quantified quantifier names train) (from_keyword (codes "HAS") vs))))
-        (names_found own binds i)
+        ∙ ap (λ x. onward x (λ names us. onward (expression_of (reader own c) own 1 d us) (λ train vs. has_test (test_at n) d (test.Quantified quantifier (gathered names) train) (from_keyword (codes "HAS") vs))))
+        (names_found own 1 end.In binds i)
         ∙ ap (λ x. onward x (λ train vs. has_test (test_at n) d (test.Quantified quantifier (gathered names) train) (from_keyword (codes "HAS") vs)))
         (expression_found law trained c deep (end_keyword own (codes "HAS") v j))
         ∙ ap (λ x. has_test (test_at n) d (test.Quantified quantifier (gathered names) train) (if x then Some vs else None)) j

@@ -1,6 +1,7 @@
 -- What is read as a test spells it.
 use Rattle.std.proofs.Common.{◌≡◌, ℕ, zero, suc, ◌≤◌, ◌&&◌, Bool, true, false, List, [], ◌∷◌, ◌++◌, Option, Some, None, refl, ap, arith, sym, ◌∙◌, subst}
-use Rattle.std.specs.Prelude.{codes, if◌then◌else◌}
+use Rattle.std.specs.Prelude.{codes, nat_le, ◌==◌, length, if◌then◌else◌}
+use Rattle.std.proofs.lemmas.Bool.{and_parts, leb-true}
 use Rattle.std.proofs.lemmas.List.{append_assoc}
 use Rattle.abc_tree.specs.declared.formulas.Bound.{Bound}
 use Rattle.abc_tree.specs.declared.formulas.Bound.TheVariants as b
@@ -25,12 +26,14 @@ use Rattle.abc_expressions.specs.declared.lexemes.Lexeme.TheVariants as t
 use Rattle.abc_formula.specs.declared.test_frames.Place.{Place}
 use Rattle.abc_formula.specs.declared.test_frames.Place.TheVariants as place
 use Rattle.abc_formula.specs.declared.test_frames.Behind.TheVariants as behind
+use Rattle.abc_formula.specs.declared.test_frames.NamesEnd.{NamesEnd}
+use Rattle.abc_formula.specs.declared.test_frames.NamesEnd.TheVariants as end
 use Rattle.abc_expressions.specs.Operators.{kind_of}
 use Rattle.abc_expressions.specs.Grammar.{Spells}
 use Rattle.abc_expressions.specs.inner.Machine.{Found, reader, sign_of}
 use Rattle.abc_tokens.proofs.Faults.{OneReading}
 use Rattle.abc_formula.specs.TestGrammar.{is_keyword, quantifier_of, relation_of, membership_of, predicate, link, is_round, gathered, takes_and, takes_or, Binds, last_name, more_names, BindsPart, one_name, round_names, Relates, last_link, more_links, Tests, alone, negated, quantified, both, either, Parted, round, chain, member, call, refinement}
-use Rattle.abc_formula.specs.inner.TestMachine.{FoundTest, Groups, onward, name_read, at_names_sign, at_name, behind_name, names_end, names_in, expression_of, FoundLinks, linked, links_by, links_in, lone_by, before, lone, chained, contained, part_by, part_of, Reads, closed, rounded, tight, wrapped, from_keyword, has_test, quantifies, front_by, behind_of, rest_of, joined, from_front, test_in}
+use Rattle.abc_formula.specs.inner.TestMachine.{FoundTest, Groups, onward, name_read, at_names_sign, at_name, behind_name, ends, is_end, names_end, names_in, expression_of, FoundLinks, linked, links_by, links_in, lone_by, before, lone, chained, contained, part_by, part_of, Reads, closed, rounded, tight, wrapped, from_keyword, has_test, quantifies, front_by, behind_of, rest_of, joined, from_front, test_in}
 use Rattle.abc_expressions.proofs.Sound.{reads_single}
 
 same_found : {X : Type 0} (p q : X × List Lexeme) → Some p ≡ Some q → p ≡ q
@@ -39,74 +42,78 @@ same_found p q h = cc
 -- ---- names
 
 -- what is read as names from here on comes behind those
-abbrev NamesSoFar : List (List ℕ) → ℕ → List Bound → List Lexeme → List Lexeme → Type 0
-NamesSoFar own d names all ts = (more : List Bound) (rest : List Lexeme) → Binds own d more ts rest → Binds own d (names ++ more) all rest
+abbrev NamesSoFar : List (List ℕ) → ℕ → ℕ → List Bound → List Lexeme → List Lexeme → Type 0
+NamesSoFar own fewest d names all ts = (more : List Bound) (rest : List Lexeme) → Binds own fewest d more ts rest → Binds own fewest d (names ++ more) all rest
 
-module _ (own : List (List ℕ)) (most : ℕ) (all : List Lexeme) where
+module _ (own : List (List ℕ)) (fewest : ℕ) (how : NamesEnd) (most : ℕ) (all : List Lexeme) where
   -- names are wanted here
   abbrev Naming : Groups → ℕ → List Lexeme → Type 0
   Naming [] d ts = ⊥
-  Naming (names ∷ []) d ts = (d ≡ most) × NamesSoFar own d names all ts
-  Naming (names ∷ outer ∷ groups) d ts = (us : List Lexeme) × NamesSoFar own d names us ts × Naming (outer ∷ groups) (suc d) (t.Sign s.Open ∷ us)
+  Naming (names ∷ []) d ts = (d ≡ most) × NamesSoFar own fewest d names all ts
+  Naming (names ∷ outer ∷ groups) d ts = (us : List Lexeme) × NamesSoFar own fewest d names us ts × Naming (outer ∷ groups) (suc d) (t.Sign s.Open ∷ us)
 
   -- a name was read
   abbrev Named : Groups → ℕ → List Lexeme → Type 0
   Named [] d ts = ⊥
-  Named (names ∷ groups) d ts = (front : List Bound) × (a : Bound) × (us : List Lexeme) × (names ≡ front ++ a ∷ []) × BindsPart own d a us ts × Naming (front ∷ groups) d us
+  Named (names ∷ groups) d ts = (front : List Bound) × (a : Bound) × (us : List Lexeme) × (names ≡ front ++ a ∷ []) × BindsPart own fewest d a us ts × Naming (front ∷ groups) d us
 
   abbrev NamesState : Bool → Groups → ℕ → List Lexeme → Type 0
   NamesState true groups d ts = Naming groups d ts
   NamesState false groups d ts = Named groups d ts
 
-  abbrev NamesTold : Bound → List Lexeme → Type 0
-  NamesTold bound us = (names : List Bound) × (token : Lexeme) × Binds own most names all (token ∷ us) × (is_keyword (codes "IN") token ≡ true) × (bound ≡ gathered names)
+  abbrev NamesTold : List Bound → List Lexeme → Type 0
+  NamesTold names us = (token : Lexeme) × Binds own fewest most names all (token ∷ us) × (ends how token ≡ true)
 
-  so_far_more : (d : ℕ) (front : List Bound) (a : Bound) (all us ts : List Lexeme) → NamesSoFar own d front all us → BindsPart own d a us (t.Sign s.Comma ∷ ts)
-      → NamesSoFar own d (front ++ a ∷ []) all ts
+  so_far_more : (d : ℕ) (front : List Bound) (a : Bound) (all us ts : List Lexeme) → NamesSoFar own fewest d front all us → BindsPart own fewest d a us (t.Sign s.Comma ∷ ts)
+      → NamesSoFar own fewest d (front ++ a ∷ []) all ts
   so_far_more d front a all us ts so p more rest q =
-      subst (λ (x : List Bound). Binds own d x all rest) (sym (append_assoc front (a ∷ []) more)) (so (a ∷ more) rest (more_names p q))
+      subst (λ (x : List Bound). Binds own fewest d x all rest) (sym (append_assoc front (a ∷ []) more)) (so (a ∷ more) rest (more_names p q))
 
   -- behind a comma
   comma : (groups : Groups) (d : ℕ) (ts : List Lexeme) → Named groups d (t.Sign s.Comma ∷ ts) → Naming groups d ts
   comma [] d ts h = absurd h
   comma (names ∷ []) d ts (front, a, us, same, p, (e, so)) =
-      (e, subst (λ (x : List Bound). NamesSoFar own d x all ts) (sym same) (so_far_more d front a all us ts so p))
+      (e, subst (λ (x : List Bound). NamesSoFar own fewest d x all ts) (sym same) (so_far_more d front a all us ts so p))
   comma (names ∷ outer ∷ groups) d ts (front, a, us, same, p, (vs, so, out)) =
-      (vs, subst (λ (x : List Bound). NamesSoFar own d x vs ts) (sym same) (so_far_more d front a vs us ts so p), out)
+      (vs, subst (λ (x : List Bound). NamesSoFar own fewest d x vs ts) (sym same) (so_far_more d front a vs us ts so p), out)
 
-  close : (names outer : List Bound) (groups : Groups) (d : ℕ) (ts : List Lexeme) → Named (names ∷ outer ∷ groups) d (t.Sign s.Close ∷ ts)
+  close : (names outer : List Bound) (groups : Groups) (d : ℕ) (ts : List Lexeme) → fewest ≤ length names → Named (names ∷ outer ∷ groups) d (t.Sign s.Close ∷ ts)
       → Named ((outer ++ gathered names ∷ []) ∷ groups) (suc d) ts
-  close names outer groups d ts (front, a, us, same, p, (vs, so, out)) =
-      let inner : Binds own d names vs (t.Sign s.Close ∷ ts) = subst (λ (x : List Bound). Binds own d x vs (t.Sign s.Close ∷ ts)) (sym same) (so (a ∷ []) (t.Sign s.Close ∷ ts) (last_name p)) in
-      (outer, gathered names, t.Sign s.Open ∷ vs, refl, round_names inner, out)
+  close names outer groups d ts many (front, a, us, same, p, (vs, so, out)) =
+      let inner : Binds own fewest d names vs (t.Sign s.Close ∷ ts) = subst (λ (x : List Bound). Binds own fewest d x vs (t.Sign s.Close ∷ ts)) (sym same) (so (a ∷ []) (t.Sign s.Close ∷ ts) (last_name p)) in
+      (outer, gathered names, t.Sign s.Open ∷ vs, refl, round_names many inner, out)
 
-  at_in : (groups : Groups) (d : ℕ) (token : Lexeme) (ts us : List Lexeme) (bound : Bound) → Named groups d (token ∷ ts) → is_keyword (codes "IN") token ≡ true
-      → names_end ts groups ≡ Some (bound, us) → NamesTold bound us
-  at_in [] d token ts us bound h i e = absurd h
-  at_in (names ∷ []) d token ts us bound (front, a, vs, same, p, (m, so)) i e =
-      let same_end = same_found (gathered names, ts) (bound, us) e in
-      let f : gathered names ≡ bound = ap (λ x. x.0) same_end in
+  at_end : (groups : Groups) (d : ℕ) (token : Lexeme) (ts us : List Lexeme) (found : List Bound) → Named groups d (token ∷ ts) → ends how token ≡ true
+      → names_end ts groups ≡ Some (found, us) → NamesTold found us
+  at_end [] d token ts us found h i e = absurd h
+  at_end (names ∷ []) d token ts us found (front, a, vs, same, p, (m, so)) i e =
+      let same_end = same_found (names, ts) (found, us) e in
+      let f : names ≡ found = ap (λ x. x.0) same_end in
       let g : ts ≡ us = ap (λ x. x.1) same_end in
-      let whole : Binds own d names all (token ∷ ts) = subst (λ (x : List Bound). Binds own d x all (token ∷ ts)) (sym same) (so (a ∷ []) (token ∷ ts) (last_name p)) in
-      (names, token, subst (λ (x : ℕ). Binds own x names all (token ∷ us)) m (subst (λ (x : List Lexeme). Binds own d names all (token ∷ x)) g whole), i, sym f)
-  at_in (names ∷ outer ∷ groups) d token ts us bound h i e = cc
+      let whole : Binds own fewest d names all (token ∷ ts) = subst (λ (x : List Bound). Binds own fewest d x all (token ∷ ts)) (sym same) (so (a ∷ []) (token ∷ ts) (last_name p)) in (
+        token,
+        subst (λ (x : List Bound). Binds own fewest most x all (token ∷ us)) f
+            (subst (λ (x : ℕ). Binds own fewest x names all (token ∷ us)) m (subst (λ (x : List Lexeme). Binds own fewest d names all (token ∷ x)) g whole)),
+        i,
+      )
+  at_end (names ∷ outer ∷ groups) d token ts us found h i e = cc
 
-  module _ (token : Lexeme) (ts us : List Lexeme) (bound : Bound)
-      (ih : (wants : Bool) (groups : Groups) (d : ℕ) → NamesState wants groups d ts → names_in own ts d groups wants ≡ Some (bound, us) → NamesTold bound us) where
-    own_read : (k : Kind) (x : List ℕ) (groups : Groups) (d : ℕ) → kind_of own x ≡ k → Naming groups d (t.Name x ∷ ts) → name_read k (names_in own ts) d groups ≡ Some (bound, us) → NamesTold bound us
+  module _ (token : Lexeme) (ts us : List Lexeme) (found : List Bound)
+      (ih : (wants : Bool) (groups : Groups) (d : ℕ) → NamesState wants groups d ts → names_in own fewest how ts d groups wants ≡ Some (found, us) → NamesTold found us) where
+    own_read : (k : Kind) (x : List ℕ) (groups : Groups) (d : ℕ) → kind_of own x ≡ k → Naming groups d (t.Name x ∷ ts) → name_read k (names_in own fewest how ts) d groups ≡ Some (found, us) → NamesTold found us
     own_read (kind.Own i) x [] d k h e = absurd h
     own_read (kind.Own i) x (names ∷ groups) d k h e =
         ih false ((names ++ b.One (record { 0 = i }) ∷ []) ∷ groups) d (names, b.One (record { 0 = i }), t.Name x ∷ ts, refl, one_name k, h) e
     own_read (kind.Given one two) x groups d k h e = cc
     own_read kind.Free x groups d k h e = cc
 
-    opens : (sign : Sign) (groups : Groups) (d : ℕ) → Naming groups d (t.Sign sign ∷ ts) → at_names_sign sign (names_in own ts) d groups ≡ Some (bound, us) → NamesTold bound us
+    opens : (sign : Sign) (groups : Groups) (d : ℕ) → Naming groups d (t.Sign sign ∷ ts) → at_names_sign sign (names_in own fewest how ts) d groups ≡ Some (found, us) → NamesTold found us
     opens s.Open groups zero h e = cc
     opens s.Open [] (suc d) h e = absurd h
     opens s.Open (names ∷ groups) (suc d) h e = ih true ([] ∷ names ∷ groups) d (ts, (λ more rest q. q), h) e
     opens _ groups d h e = cc
 
-    wanted : (x : Lexeme) (groups : Groups) (d : ℕ) → Naming groups d (x ∷ ts) → at_name own x (names_in own ts) d groups ≡ Some (bound, us) → NamesTold bound us
+    wanted : (x : Lexeme) (groups : Groups) (d : ℕ) → Naming groups d (x ∷ ts) → at_name own x (names_in own fewest how ts) d groups ≡ Some (found, us) → NamesTold found us
     wanted (t.Name x) groups d h e = own_read (kind_of own x) x groups d refl h e
     wanted (t.Sign sign) groups d h e = opens sign groups d h e
     wanted (t.Number bytes) groups d h e = cc
@@ -114,11 +121,16 @@ module _ (own : List (List ℕ)) (most : ℕ) (all : List Lexeme) where
     wanted (t.Text bytes) groups d h e = cc
     wanted t.Other groups d h e = cc
 
-    after_sign : (x : Lexeme) (groups : Groups) (d : ℕ) → Named groups d (x ∷ ts) → behind_name (sign_of x) (names_in own ts) d groups ≡ Some (bound, us) → NamesTold bound us
+    closes : (names outer : List Bound) (groups : Groups) (d : ℕ) (many : Bool) → nat_le fewest (length names) ≡ many → Named (names ∷ outer ∷ groups) d (t.Sign s.Close ∷ ts)
+        → (if many then names_in own fewest how ts (suc d) ((outer ++ gathered names ∷ []) ∷ groups) false else None) ≡ Some (found, us) → NamesTold found us
+    closes names outer groups d true is h e = ih false ((outer ++ gathered names ∷ []) ∷ groups) (suc d) (close names outer groups d ts (leb-true fewest (length names) is) h) e
+    closes names outer groups d false is h e = cc
+
+    after_sign : (x : Lexeme) (groups : Groups) (d : ℕ) → Named groups d (x ∷ ts) → behind_name fewest (sign_of x) (names_in own fewest how ts) d groups ≡ Some (found, us) → NamesTold found us
     after_sign (t.Sign s.Comma) groups d h e = ih true groups d (comma groups d ts h) e
     after_sign (t.Sign s.Close) [] d h e = cc
     after_sign (t.Sign s.Close) (names ∷ []) d h e = cc
-    after_sign (t.Sign s.Close) (names ∷ outer ∷ groups) d h e = ih false ((outer ++ gathered names ∷ []) ∷ groups) (suc d) (close names outer groups d ts h) e
+    after_sign (t.Sign s.Close) (names ∷ outer ∷ groups) d h e = closes names outer groups d (nat_le fewest (length names)) refl h e
     after_sign (t.Sign _) groups d h e = cc
     after_sign (t.Name x) groups d h e = cc
     after_sign (t.Number bytes) groups d h e = cc
@@ -126,16 +138,21 @@ module _ (own : List (List ℕ)) (most : ℕ) (all : List Lexeme) where
     after_sign (t.Text bytes) groups d h e = cc
     after_sign t.Other groups d h e = cc
 
-    after_name : (is : Bool) (groups : Groups) (d : ℕ) → is_keyword (codes "IN") token ≡ is → Named groups d (token ∷ ts)
-        → (if is then names_end ts groups else behind_name (sign_of token) (names_in own ts) d groups) ≡ Some (bound, us) → NamesTold bound us
-    after_name true groups d i h e = at_in groups d token ts us bound h i e
+    after_name : (is : Bool) (groups : Groups) (d : ℕ) → is_end how token groups ≡ is → Named groups d (token ∷ ts)
+        → (if is then names_end ts groups else behind_name fewest (sign_of token) (names_in own fewest how ts) d groups) ≡ Some (found, us) → NamesTold found us
+    after_name true groups d i h e = at_end groups d token ts us found h (and_parts (ends how token) (length groups == 1) i).0 e
     after_name false groups d i h e = after_sign token groups d h e
 
-  names_told : (ts us : List Lexeme) (bound : Bound) (wants : Bool) (groups : Groups) (d : ℕ) → NamesState wants groups d ts → names_in own ts d groups wants ≡ Some (bound, us) → NamesTold bound us
+  names_told : (ts us : List Lexeme) (found : List Bound) (wants : Bool) (groups : Groups) (d : ℕ) → NamesState wants groups d ts → names_in own fewest how ts d groups wants ≡ Some (found, us) → NamesTold found us
   unfolding names_in
-  names_told [] us bound wants groups d h e = cc
-  names_told (token ∷ ts) us bound true groups d h e = wanted token ts us bound (names_told ts us bound) token groups d h e
-  names_told (token ∷ ts) us bound false groups d h e = after_name token ts us bound (names_told ts us bound) (is_keyword (codes "IN") token) groups d refl h e
+  names_told [] us found wants groups d h e = cc
+  names_told (token ∷ ts) us found true groups d h e = wanted token ts us found (names_told ts us found) token groups d h e
+  names_told (token ∷ ts) us found false groups d h e = after_name token ts us found (names_told ts us found) (is_end how token groups) groups d refl h e
+
+-- the names up to what ends them are spelled
+pub names_spelled : (own : List (List ℕ)) (fewest : ℕ) (how : NamesEnd) (d : ℕ) (ts us : List Lexeme) (found : List Bound) → names_in own fewest how ts d ([] ∷ []) true ≡ Some (found, us)
+    → (token : Lexeme) × Binds own fewest d found ts (token ∷ us) × (ends how token ≡ true)
+names_spelled own fewest how d ts us found e = names_told own fewest how d ts ts us found true ([] ∷ []) d (refl, λ more rest q. q) e
 
 -- ---- lone expressions
 
@@ -341,7 +358,7 @@ module _ (law : OneReading) (own : List (List ℕ)) (c : ℕ) where
 
     -- behind a quantifier
     has_told : (p : Place) (d : ℕ) (quantifier : Quantifier) (names : List Bound) (train : Expr) (token u : Lexeme) (ts us vs : List Lexeme) (result : Test × List Lexeme)
-        → quantifier_of token ≡ Some quantifier → Binds own d names ts (u ∷ us) → is_keyword (codes "IN") u ≡ true → Spells own d 1 train us vs
+        → quantifier_of token ≡ Some quantifier → Binds own 1 d names ts (u ∷ us) → is_keyword (codes "IN") u ≡ true → Spells own d 1 train us vs
         → has_test (test_at n) d (test.Quantified quantifier (gathered names) train) (from_keyword (codes "HAS") vs) ≡ Some result → Tests own d p result.0 (token ∷ ts) result.1
     has_told p d quantifier names train token u ts us [] result h binds i trained g = cc
     has_told p d quantifier names train token u ts us (v ∷ vs) result h binds i trained g = by_has (is_keyword (codes "HAS") v) refl g
@@ -357,12 +374,11 @@ module _ (law : OneReading) (own : List (List ℕ)) (c : ℕ) where
     quantifies_told : (p : Place) (d : ℕ) (quantifier : Quantifier) (token : Lexeme) (ts : List Lexeme) (result : Test × List Lexeme) → quantifier_of token ≡ Some quantifier
         → quantifies (reader own c) own (test_at n) quantifier d ts ≡ Some result → Tests own d p result.0 (token ∷ ts) result.1
     quantifies_told p d quantifier token ts result h g =
-        let read = λ (names : Bound) (us : List Lexeme). onward (expression_of (reader own c) own 1 d us) (λ train vs. has_test (test_at n) d (test.Quantified quantifier names train) (from_keyword (codes "HAS") vs)) in
-        let q = onward_told (names_in own ts d ([] ∷ []) true) read result g in
-        let w = names_told own d ts ts q.1 q.0 true ([] ∷ []) d (refl, (λ more rest x. x)) q.2 in
-        let same : read (gathered w.0) q.1 ≡ Some result = ap (λ x. read x q.1) (sym w.4) ∙ q.3 in
-        let r = onward_told (expression_of (reader own c) own 1 d q.1) (λ train vs. has_test (test_at n) d (test.Quantified quantifier (gathered w.0) train) (from_keyword (codes "HAS") vs)) result same in
-        has_told p d quantifier w.0 r.0 token w.1 ts q.1 r.1 result h w.2 w.3 (expression_told d 1 (omega arith) q.1 r.1 r.0 r.2) r.3
+        let read = λ (names : List Bound) (us : List Lexeme). onward (expression_of (reader own c) own 1 d us) (λ train vs. has_test (test_at n) d (test.Quantified quantifier (gathered names) train) (from_keyword (codes "HAS") vs)) in
+        let q = onward_told (names_in own 1 end.In ts d ([] ∷ []) true) read result g in
+        let w = names_spelled own 1 end.In d ts q.1 q.0 q.2 in
+        let r = onward_told (expression_of (reader own c) own 1 d q.1) (λ train vs. has_test (test_at n) d (test.Quantified quantifier (gathered q.0) train) (from_keyword (codes "HAS") vs)) result q.3 in
+        has_told p d quantifier q.0 r.0 token w.0 ts q.1 r.1 result h w.1 w.2 (expression_told d 1 (omega arith) q.1 r.1 r.0 r.2) r.3
 
     tight_joined : (p : Place) (d : ℕ) (ts : List Lexeme) (result : Test × List Lexeme)
         → onward (tight (reader own c) own (test_at n) n d ts) (λ a rest. joined (test_at n) d a rest (behind_of p rest)) ≡ Some result → Tests own d p result.0 ts result.1

@@ -1,5 +1,5 @@
 -- Which test spells which tokens.
-use Rattle.std.specs.Prelude.{◌≡◌, ℕ, suc, ◌-◌, Bool, true, false, ◌||◌, ◌==◌, List, [], ◌∷◌, Option, None, Some, codes, if◌then◌else◌}
+use Rattle.std.specs.Prelude.{◌≡◌, ◌≤◌, ℕ, suc, ◌-◌, Bool, true, false, ◌||◌, ◌==◌, List, [], ◌∷◌, length, Option, None, Some, codes, if◌then◌else◌}
 use Rattle.abc_num.specs.Text.{text_eq}
 use Rattle.abc_tree.specs.declared.formulas.Bound.{Bound}
 use Rattle.abc_tree.specs.declared.formulas.Bound.TheVariants as b
@@ -137,17 +137,18 @@ gathered (a ∷ []) = a
 gathered (a ∷ c ∷ more) = b.Several (a ∷ c ∷ more)
 
 mutual
-  -- the names that a quantifier binds, with commas between; a bracket is one of the test
-  pub data Binds (own : List (List ℕ)) : ℕ → List Bound → List Lexeme → List Lexeme → Type 0 where
-    last_name : {d : ℕ} {a : Bound} {ts rest : List Lexeme} → BindsPart own d a ts rest → Binds own d (a ∷ []) ts rest
-    more_names : {d : ℕ} {a : Bound} {more : List Bound} {ts us rest : List Lexeme} → BindsPart own d a ts (t.Sign s.Comma ∷ us) → Binds own d more us rest
-        → Binds own d (a ∷ more) ts rest
+  -- `Binds own fewest d names ts rest`: the tokens ts up to rest spell these names with commas between, where d more brackets
+  -- may open and each has so many names at least
+  pub data Binds (own : List (List ℕ)) (fewest : ℕ) : ℕ → List Bound → List Lexeme → List Lexeme → Type 0 where
+    last_name : {d : ℕ} {a : Bound} {ts rest : List Lexeme} → BindsPart own fewest d a ts rest → Binds own fewest d (a ∷ []) ts rest
+    more_names : {d : ℕ} {a : Bound} {more : List Bound} {ts us rest : List Lexeme} → BindsPart own fewest d a ts (t.Sign s.Comma ∷ us)
+        → Binds own fewest d more us rest → Binds own fewest d (a ∷ more) ts rest
 
   -- a name, or names in parentheses
-  pub data BindsPart (own : List (List ℕ)) : ℕ → Bound → List Lexeme → List Lexeme → Type 0 where
-    one_name : {d i : ℕ} {x : List ℕ} {rest : List Lexeme} → kind_of own x ≡ kind.Own i → BindsPart own d (b.One (record { 0 = i })) (t.Name x ∷ rest) rest
-    round_names : {d : ℕ} {more : List Bound} {ts rest : List Lexeme} → Binds own d more ts (t.Sign s.Close ∷ rest)
-        → BindsPart own (suc d) (gathered more) (t.Sign s.Open ∷ ts) rest
+  pub data BindsPart (own : List (List ℕ)) (fewest : ℕ) : ℕ → Bound → List Lexeme → List Lexeme → Type 0 where
+    one_name : {d i : ℕ} {x : List ℕ} {rest : List Lexeme} → kind_of own x ≡ kind.Own i → BindsPart own fewest d (b.One (record { 0 = i })) (t.Name x ∷ rest) rest
+    round_names : {d : ℕ} {more : List Bound} {ts rest : List Lexeme} → fewest ≤ length more → Binds own fewest d more ts (t.Sign s.Close ∷ rest)
+        → BindsPart own fewest (suc d) (gathered more) (t.Sign s.Open ∷ ts) rest
 
 -- R E1 R E1 ..: the relations of a chain behind its first expression
 pub data Relates (own : List (List ℕ)) : ℕ → List Link → List Lexeme → List Lexeme → Type 0 where
@@ -177,9 +178,9 @@ mutual
     -- NOT right
     negated : {d : ℕ} {p : Place} {a : Test} {t : Lexeme} {ts rest : List Lexeme} → is_keyword (codes "NOT") t ≡ true → Tests own d place.Negated a ts rest
         → Tests own d p (test.Not a) (t ∷ ts) rest
-    -- Q names IN E1 HAS test
+    -- Q names IN E1 HAS test; the brackets of the names are brackets of the test
     quantified : {d : ℕ} {p : Place} {quantifier : Quantifier} {names : List Bound} {train : Expr} {a : Test} {t u v : Lexeme} {ts us vs rest : List Lexeme}
-        → quantifier_of t ≡ Some quantifier → Binds own d names ts (u ∷ us) → is_keyword (codes "IN") u ≡ true
+        → quantifier_of t ≡ Some quantifier → Binds own 1 d names ts (u ∷ us) → is_keyword (codes "IN") u ≡ true
         → Spells own d 1 train us (v ∷ vs) → is_keyword (codes "HAS") v ≡ true → Tests own d place.Whole a vs rest
         → Tests own d p (test.Quantified quantifier (gathered names) train a) (t ∷ ts) rest
     -- tight AND conj

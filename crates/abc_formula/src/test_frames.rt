@@ -39,3 +39,12 @@ pub enum Behind {
     Or,
     Ends,
 }
+
+/// What ends names, where no bracket of theirs is open.
+#[derive(Clone, Copy, PartialEq, Eq, Debug)]
+pub enum NamesEnd {
+    /// The keyword IN.
+    In,
+    /// A closing parenthesis.
+    Close,
+}

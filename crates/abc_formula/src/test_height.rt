@@ -5,9 +5,9 @@ ghost use Rattle.abc_tree.specs.Height.{height, test_height, above};
 use abc_expressions::{a_part_reaches, reaches};
 use abc_tree::{Link, Test};
 
-/// Whether the test is higher than `most`.
+/// Whether the test is higher than `most` levels. It takes no memory.
 #[cycle(test_height)]
-pub(crate) fn is_test_higher(test: &Test, most: u32) -> bool
+pub fn is_test_higher(test: &Test, most: u32) -> bool
     ensures { IsTrue result ↔ (most < test_height test.now) }
 {
     match test {

@@ -9,9 +9,9 @@ ghost use Rattle.abc_formula.specs.inner.TestSteps.{Fewer, FindsLinks, FindsTest
 ghost use Rattle.abc_expressions.specs.inner.Steps.{Finds};
 ghost use Rattle.abc_formula.specs.declared.test_frames.Place.TheVariants.{Whole};
 
-use crate::bounds::names_in;
+use crate::bounds::{gathered, names_in};
 use crate::brackets::is_round;
-use crate::test_frames::{Behind, Front, Place, TestFrame};
+use crate::test_frames::{Behind, Front, NamesEnd, Place, TestFrame};
 use crate::test_names::{is_keyword, membership_of, quantifier_of, relation_of};
 use crate::wrapping::wrapped_by_all;
 use abc_expressions::{
@@ -266,11 +266,11 @@ fn quantified<'a>(
     ensures begins { (c : ℕ) → left ≤ c → Begins left (λ next. quantifies (reader own.now c) own.now next quantifier left tokens.now) result }
     ensures rest { IfOk result (λ opened. Fewer opened.rest.now tokens.now) }
 {
-    let named = names_in(alloc, own, tokens, left)?;
+    let named = names_in(alloc, own, tokens, u32::from(left), 1, NamesEnd::In)?;
     let front = single(alloc, own, named.rest, left, 1)?;
     match from_keyword(b"HAS", front.rest) {
         Some(rest) => Ok(Opened {
-            frame: TestFrame::Quantified(quantifier, named.names, front.tree),
+            frame: TestFrame::Quantified(quantifier, gathered(named.names), front.tree),
             rest,
         }),
         None => Err(FormulaFault::BadCommand),

@@ -1,6 +1,6 @@
 -- Finite maps to values, their changes, and stacks of them.
-use Rattle.std.specs.Prelude.{ℕ, ◌-◌, Bool, true, false, List, [], ◌∷◌, length, take, slice_index_or, slice_set, Option, None, Some, if◌then◌else◌}
-use Rattle.std.specs.List.{fold, flat_map}
+use Rattle.std.specs.Prelude.{ℕ, ◌-◌, Bool, true, false, List, [], ◌∷◌, length, map, take, slice_index_or, slice_set, Option, None, Some, if◌then◌else◌}
+use Rattle.std.specs.List.{fold, flat_map, AllByRecursion}
 use Rattle.std.specs.List.Sorted.{IsStrictlySortedBy}
 use Rattle.std.specs.Ordering.{nat_cmp, is_eq}
 use Rattle.std.specs.BTreeMap.{insert_entry, is_at}
@@ -8,6 +8,7 @@ use Rattle.std.specs.Map.{lookup, remove_entry, keys_of}
 use Rattle.abc_num.specs.Text.{text_cmp}
 use Rattle.abc_value.specs.Tree.{Tree}
 use Rattle.abc_value.specs.Order.{order}
+use Rattle.abc_value.specs.Regular.{IsRegular}
 use Rattle.abc_frames.specs.declared.targets.TargetChange.{TargetChange}
 
 -- names in order of their bytes, each with its value
@@ -21,6 +22,10 @@ Frame = List (ℕ × Tree)
 -- each name is less than those behind it, so none stands twice
 abbrev pub AreRising : Targets → Type 0
 AreRising targets = IsStrictlySortedBy text_cmp (keys_of targets)
+
+-- each value is one that a program can have
+abbrev pub AreRegular : Targets → Type 0
+AreRegular targets = AllByRecursion (λ t. IsRegular t) (map (λ p. p.1) targets)
 
 -- each number is less than those behind it, so none stands twice
 abbrev pub IsRising : Frame → Type 0
@@ -52,14 +57,26 @@ with_names set names = fold (λ set name. insert_entry text_cmp set name tt) set
 abbrev pub names_of_both : Targets → Targets → List (List ℕ)
 names_of_both before after = keys_of (with_names (with_names [] (keys_of before)) (keys_of after))
 
+-- what is told of a name that had one value and has another now, or none
+abbrev pub told : List ℕ → Option Tree → Option Tree → List TargetChange
+told name was now = if is_same was now then [] else record { name = name; value = now } ∷ []
+
 -- what has become of a name, if its value differs
 abbrev pub change_of : Targets → Targets → List ℕ → List TargetChange
-change_of before after name =
-    if is_same (value_of name before) (value_of name after) then [] else record { name = name; value = value_of name after } ∷ []
+change_of before after name = told name (value_of name before) (value_of name after)
 
 -- the names whose value differs, in order, each with what it has now
 abbrev pub changes_of : Targets → Targets → List TargetChange
 changes_of before after = flat_map (change_of before after) (names_of_both before after)
+
+-- the name has this value, or none
+abbrev pub with_state : List ℕ → Option Tree → Targets → Targets
+with_state name None targets = without name targets
+with_state name (Some value) targets = with_value name value targets
+
+-- what changes make of a state, one after another
+abbrev pub applied : List TargetChange → Targets → Targets
+applied changes before = fold (λ targets change. with_state change.name change.value targets) before changes
 
 -- the value of a number, where it has one
 abbrev pub value_at : ℕ → Frame → Option Tree

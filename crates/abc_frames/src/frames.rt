@@ -78,9 +78,13 @@ impl Frames {
     /// The value of the name of this number in the current frame, if it has one.
     pub fn look(&self, n: u32) -> Option<&Value>
         requires { self.now ≢ [] }
-        ensures { option_map (λ v. v.now) result ≡ value_at n (current self.now) }
+        ensures value { option_map (λ v. v.now) result ≡ value_at n (current self.now) }
+        ensures rising { IsRising (current self.now) }
     {
-        self.frames[self.frames.len() - 1].get(&n)
+        let last = self.frames.len() - 1;
+        // Its clause tells that the numbers stand in order.
+        let _count = self.frames[last].len();
+        self.frames[last].get(&n)
     }
 
     /// Gives the name of this number its value in the current frame, in place of an old one.

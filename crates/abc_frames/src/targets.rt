@@ -1,15 +1,17 @@
 //! The targets of a workspace.
-ghost use Rattle.std.specs.Prelude.{◌≡◌, [], IfOk, OnOk, OnErr};
+ghost use Rattle.std.specs.Prelude.{◌≡◌, ◌++◌, [], length, None, IfOk, OnOk, OnErr};
 ghost use Rattle.std.specs.Option.{option_map};
-ghost use Rattle.std.specs.List.{flat_map};
 ghost use Rattle.std.specs.Map.{keys_of};
-ghost use Rattle.abc_frames.specs.Maps.{AreRising, value_of, with_value, without, with_names, changes_of, change_of, is_same};
+ghost use Rattle.std.specs.Map.Iter.{deref_pair};
+ghost use Rattle.abc_frames.specs.Maps.{AreRising, AreRegular, value_of, with_value, without, told, changes_of, is_same, applied};
+ghost use Rattle.abc_frames.specs.inner.Merging.{shown, front_of, lesser, left, behind, IsRegularIfAny};
 
 use abc_num::{Names, OutOfMemory, Text};
 use abc_value::Value;
 use std::alloc::Global;
 use std::cmp::Ordering;
 use std::collections::BTreeMap;
+use std::collections::btree_map::Iter;
 use std::marker::Model;
 
 /// A finite map from names to values, in order of the bytes of the names.
@@ -69,9 +71,20 @@ impl Targets {
 
     /// The value of the name, if it has one.
     pub fn look(&self, n: &Text) -> Option<&Value>
-        ensures { option_map (λ v. v.now) result ≡ value_of n.now self.now }
+        ensures value { option_map (λ v. v.now) result ≡ value_of n.now self.now }
+        ensures rising { AreRising self.now }
     {
+        // Its clause tells that the names stand in order.
+        let _count = self.values.len();
         self.values.get(n)
+    }
+
+    /// How many names have a value.
+    pub fn len(&self) -> usize
+        ensures count { result ≡ length self.now }
+        ensures rising { AreRising self.now }
+    {
+        self.values.len()
     }
 
     /// Gives the name its value, in place of an old one.
@@ -118,14 +131,15 @@ impl Targets {
         })
     }
 
-    /// The names whose value differs from that of an old state, in order of their bytes, each with what it has now.
+    /// The names whose value differs from that of an old state, in order of their bytes, each with what it has now. One pass
+    /// over both states, in which the values of each name are compared; only what is told is copied.
     pub fn changes(&self, before: &Kept) -> Result<Vec<TargetChange>, OutOfMemory>
-        ensures { IfOk result (λ changes. changes.items ≡ changes_of before.now self.now) }
+        ensures changes { IfOk result (λ changes. changes.items ≡ changes_of before.now self.now) }
+        ensures applied { IfOk result (λ changes. applied changes.items before.now ≡ self.now) }
+        ensures rising { AreRising before.now × AreRising self.now }
+        ensures regular { IfOk result (λ _. AreRegular before.now × AreRegular self.now) }
     {
-        let mut names = BTreeMap::new(self.alloc);
-        add_names(&mut names, &before.values)?;
-        add_names(&mut names, &self.values)?;
-        changes_among(self.alloc, &names, &before.values, &self.values)
+        changes_between(self.alloc, &before.values, &self.values)
     }
 
     /// Goes back to an old state. This takes no memory.
@@ -137,50 +151,131 @@ impl Targets {
     }
 }
 
-/// Puts the names of a map into a set.
-fn add_names(
-    names: &mut BTreeMap<Text, ()>,
-    values: &BTreeMap<Text, Value>,
-) -> Result<(), OutOfMemory>
-    ensures { OnOk result (names.new.entries ≡ with_names names.old.entries (keys_of values.now.entries)) }
-{
-    for name in values.keys() {
-        names.insert(name.clone()?, ())?;
-    }
-    Ok(())
-}
-
-/// The changes of these names between two states.
-fn changes_among(
+/// The changes between two states, by one pass over both.
+fn changes_between(
     alloc: Global,
-    names: &BTreeMap<Text, ()>,
     before: &BTreeMap<Text, Value>,
     after: &BTreeMap<Text, Value>,
 ) -> Result<Vec<TargetChange>, OutOfMemory>
-    ensures { IfOk result
-        (λ v. v.items ≡ flat_map (change_of before.now.entries after.now.entries) (keys_of names.now.entries)) }
+    ensures changes { IfOk result (λ v. v.items ≡ changes_of before.now.entries after.now.entries) }
+    ensures rising { AreRising before.now.entries × AreRising after.now.entries }
+    ensures regular { IfOk result (λ _. AreRegular before.now.entries × AreRegular after.now.entries) }
 {
     let mut changes = Vec::new(alloc);
-    for name in names.keys() {
-        let value = after.get(name);
-        if !are_same(before.get(name), value) {
-            changes.push(TargetChange {
-                name: name.clone()?,
-                value: copy_of(value)?,
-            })?;
-        }
+    let mut olds = before.iter();
+    let mut news = after.iter();
+    let mut old = olds.next();
+    let mut new = news.next();
+    while let Some(front) = front_of(old, new) {
+        push_change(&mut changes, front.name, front.was, front.is)?;
+        old = next_behind(&mut olds, old, front.was);
+        new = next_behind(&mut news, new, front.is);
     }
     Ok(changes)
 }
 
-/// Whether both have the same value, or none.
-fn are_same(one: Option<&Value>, other: Option<&Value>) -> bool
-    ensures { result ≡ is_same (option_map (λ v. v.now) one.entry) (option_map (λ v. v.now) other.entry) }
+/// A name and its value.
+type Entry<'a> = (&'a Text, &'a Value);
+
+/// A name, with its value in an old state and in the new one.
+#[derive(Clone, Copy)]
+struct Front<'a> {
+    name: &'a Text,
+    was: Option<&'a Value>,
+    is: Option<&'a Value>,
+}
+
+/// The lesser name of the first entries of two states. None where both have ended.
+fn front_of<'a>(old: Option<Entry<'a>>, new: Option<Entry<'a>>) -> Option<Front<'a>>
+    ensures { option_map shown result ≡ front_of (option_map deref_pair old.entry) (option_map deref_pair new.entry) }
 {
-    match (one, other) {
+    match (old, new) {
+        (Some((name, was)), Some((other, is))) => Some(lesser(name, was, other, is)),
+        (Some((name, was)), None) => Some(Front {
+            name,
+            was: Some(was),
+            is: None,
+        }),
+        (None, Some((name, is))) => Some(Front {
+            name,
+            was: None,
+            is: Some(is),
+        }),
+        (None, None) => None,
+    }
+}
+
+/// The lesser of two names; it has no value in the state that has only the other.
+fn lesser<'a>(name: &'a Text, was: &'a Value, other: &'a Text, is: &'a Value) -> Front<'a>
+    ensures { shown result ≡ lesser (name.now, was.now) (other.now, is.now) }
+{
+    match name.cmp(other) {
+        Ordering::Less => Front {
+            name,
+            was: Some(was),
+            is: None,
+        },
+        Ordering::Equal => Front {
+            name,
+            was: Some(was),
+            is: Some(is),
+        },
+        Ordering::Greater => Front {
+            name: other,
+            was: None,
+            is: Some(is),
+        },
+    }
+}
+
+/// The first entry that is left: the next one, where the value of this one was used.
+fn next_behind<'a>(
+    rest: &mut Iter<'a, Text, Value>,
+    entry: Option<Entry<'a>>,
+    used: Option<&Value>,
+) -> Option<Entry<'a>>
+    requires { option_map deref_pair entry ≡ None → rest.old ≡ [] }
+    ensures left { left (option_map deref_pair result) rest.new ≡ behind (option_map (λ v. v.now) used.entry) (left (option_map deref_pair entry.entry) rest.old) }
+    ensures ended { option_map deref_pair result ≡ None → rest.new ≡ [] }
+{
+    match used {
+        Some(_) => rest.next(),
+        None => entry,
+    }
+}
+
+/// Tells a change, if there is one.
+fn push_change(
+    changes: &mut Vec<TargetChange>,
+    name: &Text,
+    was: Option<&Value>,
+    is: Option<&Value>,
+) -> Result<(), OutOfMemory>
+    ensures change { OnOk result (changes.new.items ≡ changes.old.items ++ told name.now (option_map (λ v. v.now) was.entry) (option_map (λ v. v.now) is.entry)) }
+    ensures regular { IsRegularIfAny (option_map (λ v. v.now) was.entry) × IsRegularIfAny (option_map (λ v. v.now) is.entry) }
+{
+    if !are_same(was, is) {
+        changes.push(TargetChange {
+            name: name.clone()?,
+            value: copy_of(is)?,
+        })?;
+    }
+    Ok(())
+}
+
+/// Whether both have the same value, or none.
+fn are_same(was: Option<&Value>, is: Option<&Value>) -> bool
+    ensures same { result ≡ is_same (option_map (λ v. v.now) was.entry) (option_map (λ v. v.now) is.entry) }
+    ensures regular { IsRegularIfAny (option_map (λ v. v.now) was.entry) × IsRegularIfAny (option_map (λ v. v.now) is.entry) }
+{
+    match (was, is) {
         (Some(a), Some(b)) => a.cmp(b) == Ordering::Equal,
         (None, None) => true,
-        _ => false,
+        (Some(v), None) | (None, Some(v)) => {
+            // Its clause tells that the value is regular.
+            let _length = v.len();
+            false
+        }
     }
 }
 

@@ -38,8 +38,8 @@ module _ (c : List ℕ) (gate : ℕ) (len payload : List ℕ) (eight : length le
   abbrev X : List ℕ
   X = drop (gate + 1) c
 
-  size : gate + 10 + length payload ≤ length c
-  size = omega (arith, ap length there, length-append (len ++ payload) (0 ∷ []), length-append len payload, length-take (9 + length payload) X, length-drop (gate + 1) c)
+  pub record_fits : gate + 10 + length payload ≤ length c
+  record_fits = omega (arith, ap length there, length-append (len ++ payload) (0 ∷ []), length-append len payload, length-take (9 + length payload) X, length-drop (gate + 1) c)
 
   length_there : take 8 X ≡ len
   length_there =
@@ -61,7 +61,7 @@ module _ (c : List ℕ) (gate : ℕ) (len payload : List ℕ) (eight : length le
       ∙ ap (λ (l : List ℕ). get_or l (8 + length payload) 0) there ∙ get_or_at (len ++ payload) 0 [] 0 (8 + length payload) (omega (arith, length-append len payload))
 
   pub record_there : get_or c gate 0 ≡ 1 → IsRecord c gate payload
-  record_there is_open = record { open_gate = is_open; count = ap (λ (l : List ℕ). from_be_bytes w64 l) length_there ∙ reads; payload = payload_there; within = omega (arith, size) }
+  record_there is_open = record { open_gate = is_open; count = ap (λ (l : List ℕ). from_be_bytes w64 l) length_there ∙ reads; payload = payload_there; within = omega (arith, record_fits) }
 
 -- the first payload of a region with one record more
 first_with_more : (generation : ℕ) (image : List ℕ) (start gate : ℕ) (ps : List (List ℕ)) (payload : List ℕ) → Follows image start ps gate
@@ -166,15 +166,15 @@ module _ (image : List ℕ) (layout : Layout) (ps : List (List ℕ)) (h : HasLay
 module _ {H : Type 0} (clock : H → ℕ) (stopped : H → ℕ → List ℕ → List ℕ → Type 0) (image : List ℕ) (layout : Layout) (ps : List (List ℕ)) (h : HasLayout image layout) (has : payloads_of image ≡ Ok ps)
     (payload said : List ℕ) (old mid : H) (quiet : IsQuiet clock stopped old image) (says : (c s : List ℕ) → stopped old (clock old) c s → s ≡ said)
     (n : ℕ) (first : Leaves clock stopped old mid (λ c s. (d : List ℕ) × stopped old (clock old) d s × Torn (layout.gate + 1) n d c)) where
-  pub during_first : Leaves clock stopped old mid (IsBeforeOrAfter ps payload said)
+  pub during_first : Leaves clock stopped old mid (IsBeforeOrAfter ps (ps ++ payload ∷ []) said)
   during_first =
-      weaken clock stopped old mid (IsBeforeOrAfter ps payload said) _ first (λ c s from. (says from.0 s from.1, inl (torn_behind image layout ps h has payload n from.0 c (quiet from.0 s from.1) from.2)))
+      weaken clock stopped old mid (IsBeforeOrAfter ps (ps ++ payload ∷ []) said) _ first (λ c s from. (says from.0 s from.1, inl (torn_behind image layout ps h has payload n from.0 c (quiet from.0 s from.1) from.2)))
 
   pub during_both : (fits : length payload < 2 ^ 64) (new : H) (i : List ℕ) → i ≡ written image (layout.gate + 1) (behind_gate payload)
       → ((c s : List ℕ) → stopped mid (clock mid) c s → c ≡ i) → ((c s : List ℕ) → stopped mid (clock mid) c s → s ≡ said)
-      → Leaves clock stopped mid new (λ c s. (d : List ℕ) × stopped mid (clock mid) d s × Torn layout.gate 1 d c) → Leaves clock stopped old new (IsBeforeOrAfter ps payload said)
+      → Leaves clock stopped mid new (λ c s. (d : List ℕ) × stopped mid (clock mid) d s × Torn layout.gate 1 d c) → Leaves clock stopped old new (IsBeforeOrAfter ps (ps ++ payload ∷ []) said)
   during_both fits new i is durable says_mid second =
-      run_after clock stopped old mid new (IsBeforeOrAfter ps payload said) _ during_first second
+      run_after clock stopped old mid new (IsBeforeOrAfter ps (ps ++ payload ∷ []) said) _ during_first second
       (λ c s from. (
         says_mid from.0 s from.1,
         torn_gate image layout ps h has payload fits c (subst (λ (l : List ℕ). Torn layout.gate 1 l c) (durable from.0 s from.1 ∙ is) from.2),

@@ -61,9 +61,9 @@ module _ {H : Type 0} (clock : H → ℕ) (stopped : H → ℕ → List ℕ → 
   begin_asks mid new time now leaves = begin_reads new (run_after clock stopped old mid new _ _ (one_call clock stopped old mid _ time now) leaves now)
 
   -- the size is asked, and then the fresh image is written
-  pub begin_settles : (mid new : H) → Passes (clock old) (clock mid) (stopped old) (stopped mid) → ((c s : List ℕ) → stopped mid (clock mid) c s → stopped old (clock old) c s)
+  pub begin_writes : (mid new : H) → Passes (clock old) (clock mid) (stopped old) (stopped mid) → ((c s : List ℕ) → stopped mid (clock mid) c s → stopped old (clock old) c s)
       → length image ≤ 65 → Leaves clock stopped mid new (λ c s. (d : List ℕ) × stopped mid (clock mid) d s × Torn 0 65 d c) → Leaves clock stopped old new (IsSame ps said)
-  begin_settles mid new time now short leaves =
+  begin_writes mid new time now short leaves =
       run_after clock stopped old mid new (IsSame ps said) _ (begin_reads mid (one_call clock stopped old mid _ time now)) leaves
       (λ c s from. (says from.0 s (now from.0 s from.1), torn_fresh image from.0 c ps short has (quiet from.0 s (now from.0 s from.1)) from.2))
 

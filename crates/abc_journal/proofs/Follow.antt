@@ -4,7 +4,7 @@ use Rattle.std.proofs.lemmas.List.{take-take, drop-take, get_or-take}
 use Rattle.std.proofs.lemmas.Bool.{le-ltb, lt-ltb, le-leb, lt-leb, eq-eqb, ne_eqb, cases_lt, cases_eq, or_right, or_from}
 use Rattle.std.specs.Prelude.{Result, Ok, Err, nat_lt, nat_le}
 use Rattle.std.specs.Int.{from_be_bytes}
-use Rattle.abc_journal.specs.Image.{word_at, is_open, Region, with_first, follow}
+use Rattle.abc_journal.specs.Image.{word_at, Region, with_first, follow}
 
 -- a record with this payload stands at this place
 pub record IsRecord (image : List ℕ) (at : ℕ) (p : List ℕ) : Type 0 where

@@ -70,7 +70,7 @@ module _ (image head : List ℕ) (head_is : head ≡ take 64 image) where
 
     pub refusal : (found : Result Region ℕ) (fault : BeginFault) → follow (length image) image live.start ≡ found → IsRegion found (Err fault) → IfNotAStore {T = Layout} (Err fault) (λ at. read_image image ≡ Err at)
     refusal found (NotAStore at) same is = region_wrong at (same ∙ is)
-    refusal found StoreFault same is = absurd is
+    refusal found StoreFault same is = tt
     refusal found Memory same is = tt
 
 -- images that stand as they are

@@ -2,5 +2,12 @@ mod Rows
 pub mod Follow
 pub mod Image
 mod Append
-mod Bytes
 mod Begin
+mod Found
+mod Full
+mod Agrees
+mod Head
+mod Keeping
+mod Renewed
+mod Taken
+mod Writes

@@ -1,34 +1,45 @@
 -- What an image of a store opens to.
-use Rattle.std.specs.Prelude.{ℕ, zero, suc, ◌+◌, Bool, true, false, not, ◌||◌, List, [], ◌∷◌, ◌++◌, length, take, drop, get_or, Result, Ok, Err, if◌then◌else◌, ◌==◌, nat_lt, nat_le}
+use Rattle.std.specs.Prelude.{ℕ, zero, suc, ◌+◌, Bool, not, ◌||◌, List, [], ◌∷◌, ◌++◌, length, take, drop, get_or, Option, Some, None, is_some, Result, Ok, Err, if◌then◌else◌, ◌==◌, nat_lt, nat_le}
 use Rattle.std.specs.Int.{w64, to_be_bytes, from_be_bytes}
 use Rattle.abc_journal.specs.declared.layout.Layout.{Layout}
 use Rattle.abc_journal.specs.declared.layout.Live.{Live}
-use Rattle.abc_journal.specs.declared.format.TheConstants.{MAGIC, HEAD_BYTES, FRESH_BYTES, FIRST_SLOT, SECOND_SLOT, OPEN, RECORD_EXTRA, FRESH_IMAGE}
+use Rattle.abc_journal.specs.declared.format.TheConstants.{MAGIC, HEAD_BYTES, FRESH_BYTES, FIRST_SLOT, SECOND_SLOT, OPEN, VERSION, RECORD_EXTRA, FRESH_IMAGE}
 
 -- the number that the eight bytes at this place spell
 abbrev pub word_at : List ℕ → ℕ → ℕ
 word_at bytes at = from_be_bytes w64 (take 8 (drop at bytes))
 
--- whether the gate at this place is open
-abbrev pub is_open : List ℕ → ℕ → Bool
-is_open bytes at = get_or bytes at 0 == OPEN
+-- whether the gate of a record at this place is open
+abbrev pub record_open : List ℕ → ℕ → Bool
+record_open bytes at = get_or bytes at 0 == OPEN
 
--- the slot at this place: a gate, a generation, the start of a region
+-- the version of a region, by the gate of its slot; with another byte the slot is closed
+abbrev pub slot_version : ℕ → Option ℕ
+slot_version gate = if gate == VERSION then Some VERSION else None
+
+-- the version by the gate at this place, and whether the slot there is open
+abbrev pub version_at : List ℕ → ℕ → Option ℕ
+version_at bytes at = slot_version (get_or bytes at 0)
+
+abbrev pub slot_open : List ℕ → ℕ → Bool
+slot_open bytes at = is_some (version_at bytes at)
+
+-- the slot at this place: a gate, a generation, the start of a region; and whether the other slot is open
 abbrev pub slot_at : List ℕ → ℕ → ℕ → Bool → Live
 slot_at head at number other = record { slot = number; generation = word_at head (at + 1); start = word_at head (at + 9); other = other }
 
--- by which slots are open: the open slot of the greater generation, slot 0 where they are equal
-abbrev pub live_among : Bool → Bool → Live → Live → Result Live ℕ
-live_among false false first second = Err FIRST_SLOT
-live_among true false first second = Ok first
-live_among false true first second = Ok second
-live_among true true first second = if nat_lt first.generation second.generation then Ok second else Ok first
+-- by the versions of both slots: the open slot of the greater generation, slot 0 where they are equal
+abbrev pub live_among : Option ℕ → Option ℕ → Live → Live → Result Live ℕ
+live_among None None first second = Err FIRST_SLOT
+live_among (Some v) None first second = Ok first
+live_among None (Some w) first second = Ok second
+live_among (Some v) (Some w) first second = if nat_lt first.generation second.generation then Ok second else Ok first
 
 -- the live slot of a head, or the place of what is wrong with it
 unfoldable pub live_slot : List ℕ → Result Live ℕ
 live_slot head =
     if word_at head 0 == MAGIC then
-    live_among (is_open head FIRST_SLOT) (is_open head SECOND_SLOT) (slot_at head FIRST_SLOT 0 (is_open head SECOND_SLOT)) (slot_at head SECOND_SLOT 1 (is_open head FIRST_SLOT))
+    live_among (version_at head FIRST_SLOT) (version_at head SECOND_SLOT) (slot_at head FIRST_SLOT 0 (slot_open head SECOND_SLOT)) (slot_at head SECOND_SLOT 1 (slot_open head FIRST_SLOT))
     else Err 0
 
 -- the payloads of a region in order, and the place of the closing gate
@@ -54,7 +65,7 @@ unfoldable pub follow : ℕ → List ℕ → ℕ → Result Region ℕ
 follow zero image at = Err at
 follow (suc n) image at =
     if nat_lt at HEAD_BYTES || nat_le (length image) at then Err at
-    else (if not (is_open image at) then Ok (record { payloads = []; gate = at })
+    else (if not (record_open image at) then Ok (record { payloads = []; gate = at })
     else (if nat_lt (length image) (record_end image at) then Err at
     else with_first (payload_at image at) (follow n image (record_end image at))))
 

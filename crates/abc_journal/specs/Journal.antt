@@ -1,5 +1,5 @@
 -- What a journal knows, and what its calls leave.
-use Rattle.std.specs.Prelude.{◌≡◌, ◌⊎◌, ℕ, ◌+◌, ◌-◌, ◌<◌, ◌^◌, ◌&&◌, List, [], ◌∷◌, ◌++◌, length, max, min, Result, Ok, Err, if◌then◌else◌, ◌==◌, nat_lt}
+use Rattle.std.specs.Prelude.{◌≡◌, ◌⊎◌, ℕ, ◌+◌, ◌-◌, ◌<◌, ◌^◌, ◌&&◌, List, length, max, min, Result, Ok, Err, if◌then◌else◌, ◌==◌, nat_lt}
 use Rattle.abc_outside.specs.Stop.{Extends}
 use Rattle.abc_journal.specs.declared.layout.Layout.{Layout}
 use Rattle.abc_journal.specs.declared.faults.BeginFault.{BeginFault}
@@ -73,6 +73,6 @@ BeginsQuiet clock stopped host image = (c s : List ℕ) → stopped host (clock 
 abbrev pub IsSame : List (List ℕ) → List ℕ → List ℕ → List ℕ → Type 0
 IsSame ps said c s = (s ≡ said) × (payloads_of c ≡ Ok ps)
 
--- these bytes were said, and the image opens to these payloads or to these with one more
-abbrev pub IsBeforeOrAfter : List (List ℕ) → List ℕ → List ℕ → List ℕ → List ℕ → Type 0
-IsBeforeOrAfter ps payload said c s = (s ≡ said) × ((payloads_of c ≡ Ok ps) ⊎ (payloads_of c ≡ Ok (ps ++ payload ∷ [])))
+-- these bytes were said, and the image opens to the first payloads or to the second
+abbrev pub IsBeforeOrAfter : List (List ℕ) → List (List ℕ) → List ℕ → List ℕ → List ℕ → Type 0
+IsBeforeOrAfter before after said c s = (s ≡ said) × ((payloads_of c ≡ Ok before) ⊎ (payloads_of c ≡ Ok after))

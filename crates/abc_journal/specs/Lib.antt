@@ -3,4 +3,6 @@ pub mod Image
 pub mod Format
 pub mod inner
 pub mod Journal
+pub mod Checkpoint
+pub mod Commit
 pub mod View

@@ -1,5 +1,5 @@
 -- What contracts see of a journal.
-use Rattle.std.specs.Prelude.{Bool}
+use Rattle.std.specs.Prelude.{ℕ, Bool}
 use Rattle.abc_journal.specs.declared.layout.Layout.{Layout}
 use Rattle.abc_journal.specs.declared.layout.Bounds.{Bounds}
 
@@ -7,3 +7,5 @@ pub record View : Type 0 where
   pub layout : Layout
   pub bounds : Bounds
   pub sound : Bool
+  -- how many bytes behind the gate of a record can be made up without taking memory
+  pub reserved : ℕ

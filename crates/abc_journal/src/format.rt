@@ -15,8 +15,11 @@ pub const FIRST_SLOT: usize = 8;
 
 pub const SECOND_SLOT: usize = 25;
 
-/// A gate with this byte is open, with any other it is closed.
+/// The gate of a record is open where it is this byte, and closed where it is another.
 pub const OPEN: u8 = 1;
+
+/// The gate of a slot is the version of its region: a slot with another byte is closed.
+pub const VERSION: u8 = 1;
 
 /// A record is a gate, the length of its payload in eight bytes, and the payload.
 pub const RECORD_EXTRA: usize = 9;

@@ -1,8 +1,10 @@
 //! What is known of an image, so that it need not be read again.
-ghost use Rattle.std.specs.Prelude.{◌≡◌, ◌<◌, ◌^◌};
+ghost use Rattle.std.specs.Prelude.{◌≡◌, ◌<◌, ◌+◌, ◌^◌};
 ghost use Rattle.abc_journal.specs.Journal.{need_of, after_record};
+ghost use Rattle.abc_journal.specs.Checkpoint.{room_for as room_of, behind_need as need_behind, after_checkpoint};
+ghost use Rattle.abc_journal.specs.inner.Steps.{other_closed};
 
-use crate::format::RECORD_EXTRA;
+use crate::format::{HEAD_BYTES, RECORD_EXTRA};
 
 /// Where the live region of a store stands.
 #[derive(Clone, Copy, Debug, PartialEq, Eq)]
@@ -19,7 +21,7 @@ pub struct Layout {
     pub first: u64,
     /// The number of the live slot, 0 or 1.
     pub slot: u8,
-    /// Whether the gate of the other slot is open.
+    /// Whether the other slot is open.
     pub other: bool,
 }
 
@@ -48,6 +50,64 @@ impl Layout {
             ..*self
         }
     }
+
+    /// The length of an image that ends with a checkpoint behind the live region, whose payload has so
+    /// many bytes.
+    pub(crate) fn behind_need(&self, payload: usize) -> u128
+        ensures { result ≡ need_behind self.now payload }
+    {
+        self.gate as u128 + (RECORD_EXTRA + 2) as u128 + payload as u128
+    }
+
+    /// Where the region of a checkpoint goes whose payload has so many bytes: to the front where it ends
+    /// before the live region, else behind that within the bound.
+    pub(crate) fn room_for(&self, payload: usize, bound: u64) -> Option<u64>
+        ensures { result ≡ room_of self.now bound payload }
+    {
+        if self.generation == u64::MAX {
+            return None;
+        }
+        if (HEAD_BYTES + RECORD_EXTRA + 1) as u128 + payload as u128 <= self.start as u128 {
+            return Some(HEAD_BYTES as u64);
+        }
+        if self.behind_need(payload) <= bound as u128 {
+            return Some(self.gate + 1);
+        }
+        None
+    }
+
+    /// The layout with the other slot closed.
+    pub(crate) fn with_other_closed(&self) -> Layout
+        ensures { result ≡ other_closed self.now }
+    {
+        Layout {
+            other: false,
+            ..*self
+        }
+    }
+
+    /// The layout with a checkpoint at this place, whose payload has so many bytes.
+    pub(crate) fn with_checkpoint(&self, place: u64, payload: usize) -> Layout
+        requires end { place + (RECORD_EXTRA + 1) + payload < 2 ^ 64 }
+        requires rises { self.now.generation + 1 < 2 ^ 64 }
+        ensures { result ≡ after_checkpoint self.now place payload }
+    {
+        let end = place + (RECORD_EXTRA + 1) as u64 + payload as u64;
+        let generation = self.generation + 1;
+        Layout {
+            size: if place == HEAD_BYTES as u64 {
+                end
+            } else {
+                self.size.max(end)
+            },
+            generation,
+            start: place,
+            gate: place + RECORD_EXTRA as u64 + payload as u64,
+            first: if 1 < generation { payload as u64 } else { 0 },
+            slot: if self.slot == 0 { 1 } else { 0 },
+            other: true,
+        }
+    }
 }
 
 /// The limits of a session, in bytes.
@@ -57,12 +117,12 @@ pub struct Bounds {
     pub input: u64,
     /// No record makes the image longer than this.
     pub image: u64,
-    /// A live region that grew by this calls for a checkpoint.
+    /// A live region that grew by this, and by four times its first payload, calls for a checkpoint.
     pub checkpoint: u64,
 }
 
 /// What the head says of the live region: the number, generation and start of its slot, and whether the
-/// gate of the other slot is open.
+/// other slot is open.
 #[derive(Clone, Copy)]
 pub struct Live {
     pub slot: u8,

@@ -1,5 +1,5 @@
 //! Opening: a short image is made fresh, a longer one is read.
-ghost use Rattle.std.specs.Prelude.{◌≡◌, ◌≤◌, ◌<◌, ◌⊎◌, List, ℕ, length, Ok, Err, IfOk, OnOk, OnErr, IsErrOf, IsTrue, ◌↔◌, drop, ◌+◌};
+ghost use Rattle.std.specs.Prelude.{◌≡◌, ◌≤◌, ◌<◌, ◌⊎◌, ◌↔◌, List, ℕ, length, Ok, Err, IfOk, OnOk, OnErr, IsErrOf, IsTrue};
 ghost use Rattle.abc_outside.specs.Outside.{RoseByOne, KeepsButStore};
 ghost use Rattle.abc_outside.specs.Stop.{Torn, Leaves};
 ghost use Rattle.abc_journal.specs.Image.{fresh_image, opened_at, read_image as reads};
@@ -8,14 +8,15 @@ ghost use Rattle.abc_journal.specs.Journal.{IfNotAStore, IsNotAStore};
 use crate::BeginFault;
 use crate::format::{FRESH_BYTES, FRESH_IMAGE, HEAD_BYTES};
 use crate::layout::{Layout, Live};
-use crate::region::{live_slot, read_region};
+use crate::region::read_region;
+use crate::slots::live_slot;
 use crate::write::write_through;
 use abc_num::Text;
 use abc_outside::{Failed, Host};
 use std::alloc::Global;
 
 /// The layout of a fresh image.
-pub const FRESH: Layout = Layout {
+pub(crate) const FRESH: Layout = Layout {
     size: FRESH_BYTES as u64,
     generation: 1,
     start: HEAD_BYTES as u64,
@@ -25,7 +26,7 @@ pub const FRESH: Layout = Layout {
     other: false,
 };
 
-// Whether the image, of so many bytes, is the fresh one.
+/// Whether the image, of so many bytes, is the fresh one.
 fn is_fresh<H: Host>(host: &mut H, size: u64) -> Result<bool, Failed>
     requires size { H.tells_image → size ≡ length (H.now host.old).image }
     ensures fresh { H.tells_image → IfOk result (λ yes. IsTrue yes ↔ ((H.now host.old).image ≡ fresh_image)) }
@@ -44,8 +45,8 @@ fn is_fresh<H: Host>(host: &mut H, size: u64) -> Result<bool, Failed>
     Ok(image == FRESH_IMAGE)
 }
 
-// Puts the fresh image in place of an image of at most so many bytes, if it isn't there.
-pub fn settle<H: Host>(host: &mut H, size: u64) -> Result<(), Failed>
+/// Puts the fresh image in place of an image of at most so many bytes, if it isn't there.
+pub(crate) fn write_fresh<H: Host>(host: &mut H, size: u64) -> Result<(), Failed>
     requires short { size ≤ FRESH_BYTES }
     requires size { H.tells_image → size ≡ length (H.now host.old).image }
     ensures image { H.tells_image → OnOk result ((H.now host.new).image ≡ fresh_image) }
@@ -64,7 +65,7 @@ pub fn settle<H: Host>(host: &mut H, size: u64) -> Result<(), Failed>
     Ok(())
 }
 
-// The layout of an image of so many bytes, whose live region has these payloads.
+/// The layout of an image of so many bytes, whose live region has these payloads.
 fn layout_of(size: u64, live: Live, payloads: &[Text], gate: u64) -> Layout
     ensures { result ≡ (opened_at size live (record { payloads = payloads.now; gate = gate })).layout }
 {
@@ -83,33 +84,9 @@ fn layout_of(size: u64, live: Live, payloads: &[Text], gate: u64) -> Layout
     }
 }
 
-// The bytes of an image of so many bytes, from this place on.
-fn read_from<H: Host>(
-    alloc: Global,
-    host: &mut H,
-    start: u64,
-    size: u64,
-) -> Result<Vec<u8>, BeginFault>
-    requires within { start ≤ size }
-    requires size { H.tells_image → size ≡ length (H.now host.old).image }
-    ensures bytes { H.tells_image → IfOk result (λ bytes. bytes.items ≡ drop start (H.now host.old).image) }
-    ensures count { IfOk result (λ bytes. start + length bytes.items ≡ size) }
-    ensures no_refusal { IfNotAStore result (λ _. ⊥) }
-    ensures image { (H.now host.new).image ≡ (H.now host.old).image }
-    ensures rest { KeepsButStore (H.now host.old) (H.now host.new) }
-    ensures stops { Leaves H.clock H.stopped host.old host.new (H.stopped host.old (H.clock host.old)) }
-    ensures now { (c s : List ℕ) → H.stopped host.new (H.clock host.new) c s → H.stopped host.old (H.clock host.old) c s }
-    ensures fault { IsErrOf result BeginFault.StoreFault → RoseByOne (H.now host.old).store_faults (H.now host.new).store_faults }
-    ensures faultless { OnOk result ((H.now host.new).store_faults ≡ (H.now host.old).store_faults) }
-    ensures refused_faultless { (IsNotAStore result ⊎ IsErrOf result BeginFault.Memory) → (H.now host.new).store_faults ≡ (H.now host.old).store_faults }
-{
-    let mut bytes = vec![in alloc; 0; (size - start) as usize]?;
-    host.read_at(start, &mut bytes)?;
-    Ok(bytes)
-}
-
-// Reads an image of so many bytes: each byte of the head and of the live region once.
-pub fn read_image<H: Host>(
+/// Reads an image of so many bytes: each byte of the head and of the live region once, and none behind its
+/// closing gate.
+pub(crate) fn read_image<H: Host>(
     alloc: Global,
     host: &mut H,
     size: u64,
@@ -135,7 +112,6 @@ pub fn read_image<H: Host>(
     if live.start < HEAD_BYTES as u64 || size <= live.start {
         return Err(BeginFault::NotAStore { at: live.start });
     }
-    let region = read_from(alloc, host, live.start, size)?;
-    let (payloads, gate) = read_region(alloc, &region, live.start)?;
+    let (payloads, gate) = read_region(alloc, host, live.start, size)?;
     Ok((layout_of(size, live, &payloads, gate), payloads))
 }

@@ -1,109 +1,117 @@
-//! Reading the head and a region from bytes.
-ghost use Rattle.std.specs.Prelude.{◌≡◌, ◌≤◌, ◌<◌, ◌+◌, ◌^◌, List, ℕ, length, drop, Ok, Err, IsErrOf};
-ghost use Rattle.abc_journal.specs.Image.{follow, word_at as word_of, slot_at as slot_of, live_slot as live_of};
-ghost use Rattle.abc_journal.specs.inner.Region.{Stands, IsRegion};
+//! Reading the records of a region from the store: each byte once, and none behind the closing gate.
+ghost use Rattle.std.specs.Prelude.{◌≡◌, ◌≤◌, ◌<◌, ◌+◌, ◌⊎◌, List, ℕ, length, IfOk, OnOk, OnErr, IsErrOf};
+ghost use Rattle.abc_outside.specs.Outside.{RoseByOne, KeepsButStore};
+ghost use Rattle.abc_outside.specs.Stop.{Leaves};
+ghost use Rattle.abc_journal.specs.Image.{word_at as word_of, record_open, follow};
+ghost use Rattle.abc_journal.specs.Journal.{IfNotAStore, IsNotAStore};
+ghost use Rattle.abc_journal.specs.inner.Region.{IsFound, IsCutShort, IsRegion};
 
 use crate::BeginFault;
-use crate::format::{FIRST_SLOT, HEAD_BYTES, MAGIC, OPEN, RECORD_EXTRA, SECOND_SLOT};
-use crate::layout::Live;
+use crate::format::{HEAD_BYTES, OPEN, RECORD_EXTRA};
 use abc_num::Text;
+use abc_outside::{Failed, Host};
+use byteorder::{BigEndian, ByteOrder};
 use std::alloc::Global;
 
-// The number that the eight bytes at this place spell.
-fn word_at(bytes: &[u8], at: usize) -> u64
-    requires { at + 8 ≤ length bytes.now }
-    ensures { result ≡ word_of bytes.now at }
+/// Whether the gate at this place is open.
+fn gate_open<H: Host>(host: &mut H, at: u64) -> Result<bool, Failed>
+    requires { H.tells_image → at < length (H.now host.old).image }
+    ensures gate { H.tells_image → IfOk result (λ is_open. is_open ≡ record_open (H.now host.old).image at) }
+    ensures image { (H.now host.new).image ≡ (H.now host.old).image }
+    ensures rest { KeepsButStore (H.now host.old) (H.now host.new) }
+    ensures stops { Leaves H.clock H.stopped host.old host.new (H.stopped host.old (H.clock host.old)) }
+    ensures now { (c s : List ℕ) → H.stopped host.new (H.clock host.new) c s → H.stopped host.old (H.clock host.old) c s }
+    ensures cause { OnErr result (RoseByOne (H.now host.old).store_faults (H.now host.new).store_faults) }
+    ensures faultless { OnOk result ((H.now host.new).store_faults ≡ (H.now host.old).store_faults) }
+{
+    let mut gate = [0];
+    host.read_at(at, &mut gate)?;
+    Ok(gate[0] == OPEN)
+}
+
+/// The length that stands at this place.
+fn length_at<H: Host>(host: &mut H, at: u64) -> Result<u64, Failed>
+    requires { H.tells_image → at + 8 ≤ length (H.now host.old).image }
+    ensures length { H.tells_image → IfOk result (λ n. n ≡ word_of (H.now host.old).image at) }
+    ensures image { (H.now host.new).image ≡ (H.now host.old).image }
+    ensures rest { KeepsButStore (H.now host.old) (H.now host.new) }
+    ensures stops { Leaves H.clock H.stopped host.old host.new (H.stopped host.old (H.clock host.old)) }
+    ensures now { (c s : List ℕ) → H.stopped host.new (H.clock host.new) c s → H.stopped host.old (H.clock host.old) c s }
+    ensures cause { OnErr result (RoseByOne (H.now host.old).store_faults (H.now host.new).store_faults) }
+    ensures faultless { OnOk result ((H.now host.new).store_faults ≡ (H.now host.old).store_faults) }
 {
     let mut word = [0; 8];
-    word.copy_from_slice(&bytes[at..at + 8]);
-    u64::from_be_bytes(word)
+    host.read_at(at, &mut word)?;
+    Ok(BigEndian::read_u64(&word))
 }
 
-// The slot at this place.
-fn slot_at(head: &[u8; HEAD_BYTES], at: usize, slot: u8, other: bool) -> Live
-    requires { at ≤ SECOND_SLOT }
-    ensures { result ≡ slot_of head.now at slot other }
+/// The payload of the record at this place, whose gate is open, and whether the gate behind it is open.
+fn record_at<H: Host>(
+    alloc: Global,
+    host: &mut H,
+    at: u64,
+    size: u64,
+) -> Result<(Text, bool), BeginFault>
+    requires within { at < size }
+    requires size { H.tells_image → size ≡ length (H.now host.old).image }
+    ensures within { IfOk result (λ found. at + RECORD_EXTRA + length found.0 < size) }
+    ensures record { H.tells_image → IfOk result (λ found. IsFound (H.now host.old).image at found.0 found.1) }
+    ensures refused { H.tells_image → IfNotAStore result (λ wrong. IsCutShort (H.now host.old).image at wrong) }
+    ensures image { (H.now host.new).image ≡ (H.now host.old).image }
+    ensures rest { KeepsButStore (H.now host.old) (H.now host.new) }
+    ensures stops { Leaves H.clock H.stopped host.old host.new (H.stopped host.old (H.clock host.old)) }
+    ensures now { (c s : List ℕ) → H.stopped host.new (H.clock host.new) c s → H.stopped host.old (H.clock host.old) c s }
+    ensures fault { IsErrOf result BeginFault.StoreFault → RoseByOne (H.now host.old).store_faults (H.now host.new).store_faults }
+    ensures faultless { OnOk result ((H.now host.new).store_faults ≡ (H.now host.old).store_faults) }
+    ensures refused_faultless { (IsNotAStore result ⊎ IsErrOf result BeginFault.Memory) → (H.now host.new).store_faults ≡ (H.now host.old).store_faults }
 {
-    Live {
-        slot,
-        generation: word_at(head, at + 1),
-        start: word_at(head, at + 9),
-        other,
+    let room = size - at;
+    if room < RECORD_EXTRA as u64 {
+        return Err(BeginFault::NotAStore { at });
     }
+    let length = length_at(host, at + 1)?;
+    let room = room - RECORD_EXTRA as u64;
+    if room < length {
+        return Err(BeginFault::NotAStore { at });
+    }
+    if room == length {
+        return Err(BeginFault::NotAStore { at: size });
+    }
+    // The payload and the next gate in one call.
+    let mut bytes = vec![in alloc; 0; length as usize + 1]?;
+    host.read_at(at + RECORD_EXTRA as u64, &mut bytes)?;
+    let next_open = bytes.pop() == Some(OPEN);
+    Ok((Text::from_vec(bytes), next_open))
 }
 
-// The live slot, or the place of what is wrong with the head.
-pub fn live_slot(head: &[u8; HEAD_BYTES]) -> Result<Live, u64>
-    ensures { result ≡ live_of head.now }
-{
-    if word_at(head, 0) != MAGIC {
-        return Err(0);
-    }
-    let first_open = head[FIRST_SLOT] == OPEN;
-    let second_open = head[SECOND_SLOT] == OPEN;
-    let first = slot_at(head, FIRST_SLOT, 0, second_open);
-    let second = slot_at(head, SECOND_SLOT, 1, first_open);
-    match (first_open, second_open) {
-        (false, false) => Err(FIRST_SLOT as u64),
-        (true, false) => Ok(first),
-        (false, true) => Ok(second),
-        (true, true) if first.generation < second.generation => Ok(second),
-        (true, true) => Ok(first),
-    }
-}
-
-// What stands at a place of a region.
-pub enum Gate {
-    Record { length: usize },
-    Closed,
-    Broken,
-}
-
-fn gate_at(region: &[u8], at: usize) -> Gate
-    requires { at ≤ length region.now }
-    ensures { Stands result region.now at }
-{
-    if at == region.len() {
-        return Gate::Broken;
-    }
-    if region[at] != OPEN {
-        return Gate::Closed;
-    }
-    let room = region.len() - at;
-    if room < RECORD_EXTRA {
-        return Gate::Broken;
-    }
-    let length = word_at(region, at + 1);
-    if ((room - RECORD_EXTRA) as u64) < length {
-        return Gate::Broken;
-    }
-    Gate::Record {
-        length: length as usize,
-    }
-}
-
-// The payloads of the region with these bytes and this start, and the place of its closing gate.
-pub fn read_region(alloc: Global, region: &[u8], start: u64) -> Result<(Vec<Text>, u64), BeginFault>
-    requires { start + length region.now < 2 ^ 64 }
-    ensures no_fault { IsErrOf result BeginFault.StoreFault → ⊥ }
-    ensures region { (image : List ℕ) → HEAD_BYTES ≤ start → length image ≡ start + length region.now → drop start image ≡ region.now
-        → IsRegion (follow (length image) image start) result }
+/// The payloads of the region that starts at this place of an image of so many bytes, and the place of
+/// its closing gate. Nothing behind that gate is read.
+pub(crate) fn read_region<H: Host>(
+    alloc: Global,
+    host: &mut H,
+    start: u64,
+    size: u64,
+) -> Result<(Vec<Text>, u64), BeginFault>
+    requires behind { HEAD_BYTES ≤ start }
+    requires within { start < size }
+    requires size { H.tells_image → size ≡ length (H.now host.old).image }
+    ensures region { H.tells_image → IsRegion (follow (length (H.now host.old).image) (H.now host.old).image start) result }
+    ensures image { (H.now host.new).image ≡ (H.now host.old).image }
+    ensures rest { KeepsButStore (H.now host.old) (H.now host.new) }
+    ensures stops { Leaves H.clock H.stopped host.old host.new (H.stopped host.old (H.clock host.old)) }
+    ensures now { (c s : List ℕ) → H.stopped host.new (H.clock host.new) c s → H.stopped host.old (H.clock host.old) c s }
+    ensures fault { IsErrOf result BeginFault.StoreFault → RoseByOne (H.now host.old).store_faults (H.now host.new).store_faults }
+    ensures faultless { OnOk result ((H.now host.new).store_faults ≡ (H.now host.old).store_faults) }
+    ensures refused_faultless { (IsNotAStore result ⊎ IsErrOf result BeginFault.Memory) → (H.now host.new).store_faults ≡ (H.now host.old).store_faults }
 {
     let mut payloads = Vec::new(alloc);
-    let mut at = 0;
-    'records: loop {
-        match gate_at(region, at) {
-            Gate::Record { length } => {
-                let end = at + RECORD_EXTRA + length;
-                payloads.push(Text::of(alloc, &region[at + RECORD_EXTRA..end])?)?;
-                at = end;
-            }
-            Gate::Closed => return Ok((payloads, start + at as u64)),
-            Gate::Broken => {
-                return Err(BeginFault::NotAStore {
-                    at: start + at as u64,
-                });
-            }
-        }
+    let mut at = start;
+    let mut is_open = gate_open(host, start)?;
+    'records: while is_open {
+        let (payload, next_open) = record_at(alloc, host, at, size)?;
+        at += RECORD_EXTRA as u64 + payload.bytes().len() as u64;
+        is_open = next_open;
+        payloads.push(payload)?;
     }
+    Ok((payloads, at))
 }

@@ -8,7 +8,8 @@ use Rattle.abc_tokens.specs.declared.kinds.Shape.{Shape}
 use Rattle.abc_tokens.specs.Shape.{shape_of}
 use Rattle.abc_layout.specs.declared.splitter.Fed.{Fed}
 use Rattle.abc_layout.specs.declared.splitter.Fed.TheVariants as fed
-use Rattle.abc_layout.specs.Items.{RawLine, line_of, is_heading, is_blank, is_unit, opens, belongs, most_kept, with_line, belonging, Next, over, not_yet, whole, open_item, next}
+use Rattle.abc_num.specs.declared.lines.RawLine.{RawLine}
+use Rattle.abc_layout.specs.Items.{line_of, is_heading, is_blank, is_unit, opens, belongs, most_kept, with_line, belonging, Next, over, not_yet, whole, open_item, next}
 use Rattle.abc_layout.specs.SplitterView.{Open, Holds, Begins, GoesOn, Feeds}
 use Rattle.abc_layout.proofs.Splitting.{State, state, IsEmpty, continued, held_blank}
 

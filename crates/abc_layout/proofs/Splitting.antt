@@ -2,7 +2,8 @@
 use Rattle.std.proofs.Common.{◌≡◌, ◌⊎◌, inl, inr, Bool, true, false, List, [], ◌∷◌, ◌++◌, take, Some, None, refl, ap, sym, ◌∙◌}
 use Rattle.std.specs.Prelude.{if◌then◌else◌}
 use Rattle.abc_num.specs.declared.lines.Line.{Line}
-use Rattle.abc_layout.specs.Items.{RawLine, line_of, is_blank, is_unit, opens, belongs, most_kept, Front, with_line, belonging, Next, not_yet, whole, open_item, next}
+use Rattle.abc_num.specs.declared.lines.RawLine.{RawLine}
+use Rattle.abc_layout.specs.Items.{line_of, is_blank, is_unit, opens, belongs, most_kept, Front, with_line, belonging, Next, not_yet, whole, open_item, next}
 use Rattle.abc_layout.specs.SplitterView.{Open, kept, held}
 
 -- lines before those that belong

@@ -2,7 +2,8 @@
 use Rattle.std.proofs.Common.{◌≡◌, Bool, true, false, List, [], ◌∷◌, ◌++◌, Some, None, refl, ap, subst}
 use Rattle.std.specs.Prelude.{if◌then◌else◌}
 use Rattle.abc_num.specs.declared.lines.Line.{Line}
-use Rattle.abc_layout.specs.Items.{RawLine, line_of, is_blank, is_unit, opens, belongs, Front, with_line, belonging, Next, over, not_yet, whole, open_item, next}
+use Rattle.abc_num.specs.declared.lines.RawLine.{RawLine}
+use Rattle.abc_layout.specs.Items.{line_of, is_blank, is_unit, opens, belongs, Front, with_line, belonging, Next, over, not_yet, whole, open_item, next}
 
 -- the same front, with more lines left
 abbrev longer : List RawLine → Front → Front

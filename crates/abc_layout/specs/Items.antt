@@ -1,15 +1,11 @@
 -- The items of an input, on the whole list of its lines.
 use Rattle.std.specs.Prelude.{ℕ, ◌+◌, Bool, true, false, not, ◌&&◌, ◌||◌, List, [], ◌∷◌, take, Option, Some, None, nat_lt, if◌then◌else◌}
 use Rattle.abc_num.specs.declared.lines.Line.{Line}
+use Rattle.abc_num.specs.declared.lines.RawLine.{RawLine}
 use Rattle.abc_num.specs.declared.limits.TheConstants.{MOST_LINES}
 use Rattle.abc_tokens.specs.declared.kinds.First.{First}
 use Rattle.abc_tokens.specs.declared.kinds.First.TheVariants as first
 use Rattle.abc_tokens.specs.Shape.{indentation, text_of, shape_of}
-
--- a line of the input: its bytes, at most as many as a line may have, and whether it had more
-pub record RawLine : Type 0 where
-  pub bytes : List ℕ
-  pub long : Bool
 
 -- the line as an item keeps it
 abbrev pub line_of : RawLine → Line

@@ -3,7 +3,8 @@ use Rattle.std.specs.Prelude.{◌≡◌, Bool, true, false, List, [], ◌∷◌,
 use Rattle.abc_num.specs.declared.lines.Line.{Line}
 use Rattle.abc_layout.specs.declared.splitter.Fed.{Fed}
 use Rattle.abc_layout.specs.declared.splitter.Fed.TheVariants as fed
-use Rattle.abc_layout.specs.Items.{RawLine, line_of, is_blank, is_unit, opens, most_kept, over, not_yet, whole, next}
+use Rattle.abc_num.specs.declared.lines.RawLine.{RawLine}
+use Rattle.abc_layout.specs.Items.{line_of, is_blank, is_unit, opens, most_kept, over, not_yet, whole, next}
 
 -- an open item: whether it is a unit, and the lines that it keeps; without lines there is none
 pub record Open : Type 0 where

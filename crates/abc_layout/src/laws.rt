@@ -1,7 +1,8 @@
 //! What the definition of items means for an input that goes on.
 ghost use Rattle.std.specs.Prelude.{◌≡◌, ◌++◌, Bool, List, false};
 ghost use Rattle.abc_num.specs.declared.lines.Line.{Line};
-ghost use Rattle.abc_layout.specs.Items.{RawLine, next, whole};
+ghost use Rattle.abc_num.specs.declared.lines.RawLine.{RawLine};
+ghost use Rattle.abc_layout.specs.Items.{next, whole};
 
 /// An item that is whole stays the next one, whatever lines follow and whether the input ends.
 pub fn whole_stays()

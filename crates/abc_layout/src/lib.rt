@@ -4,7 +4,7 @@
 mod laws;
 mod splitter;
 
-pub use abc_num::{ItemLines, Line};
+pub use abc_num::{ItemLines, Line, RawLine};
 pub use laws::whole_stays;
 pub use splitter::{Fed, Splitter};
 

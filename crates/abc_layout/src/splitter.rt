@@ -3,7 +3,8 @@ ghost use Rattle.std.specs.Prelude.{◌≡◌, ◌==◌, ◌≤◌, ◌||◌, �
 ghost use Rattle.std.specs.List.{prefix_len};
 ghost use Rattle.abc_num.specs.declared.limits.TheConstants.{MOST_LINE_BYTES, MOST_LINES};
 ghost use Rattle.abc_tokens.specs.Shape.{text_of, indentation, shape_of};
-ghost use Rattle.abc_layout.specs.Items.{RawLine, line_of, is_how_to, is_heading, is_environment, most_kept};
+ghost use Rattle.abc_num.specs.declared.lines.RawLine.{RawLine};
+ghost use Rattle.abc_layout.specs.Items.{line_of, is_how_to, is_heading, is_environment, most_kept};
 
 use abc_num::limits::MOST_LINES;
 use abc_num::{ItemLines, Items, Line, OutOfMemory, Text};

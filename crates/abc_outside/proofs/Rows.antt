@@ -2,19 +2,8 @@
 use Rattle.std.proofs.Common.{◌≡◌, [], ◌∷◌, true, false, refl}
 use Rattle.abc_outside.specs.Stop.{written}
 use Rattle.abc_outside.specs.MemoryStop.{unwritten}
-use Rattle.abc_outside.specs.Session.{heard, whole}
 use Rattle.abc_outside.specs.Failing.{is_due}
 use Rattle.abc_outside.specs.declared.failing.CallKind.TheVariants.{Read, Sync}
-
--- of the first reply one byte was said
-heard_part : (heard ((1 ∷ 2 ∷ []) ∷ (3 ∷ []) ∷ []) 1 ≡ 1) × (whole ((1 ∷ 2 ∷ []) ∷ (3 ∷ []) ∷ []) 1 ≡ 0)
-heard_part = (refl, refl)
-
-heard_first : (heard ((1 ∷ 2 ∷ []) ∷ (3 ∷ []) ∷ []) 2 ≡ 1) × (whole ((1 ∷ 2 ∷ []) ∷ (3 ∷ []) ∷ []) 2 ≡ 1)
-heard_first = (refl, refl)
-
-heard_all : (heard ((1 ∷ 2 ∷ []) ∷ (3 ∷ []) ∷ []) 3 ≡ 2) × (whole ((1 ∷ 2 ∷ []) ∷ (3 ∷ []) ∷ []) 3 ≡ 2)
-heard_all = (refl, refl)
 
 -- a write over the end, and back
 written_past : (written (1 ∷ 2 ∷ 3 ∷ []) 2 (7 ∷ 8 ∷ []) ≡ 1 ∷ 2 ∷ 7 ∷ 8 ∷ []) × (unwritten (1 ∷ 2 ∷ 7 ∷ 8 ∷ []) 2 2 (3 ∷ []) ≡ 1 ∷ 2 ∷ 3 ∷ [])

@@ -7,4 +7,4 @@ pub mod MemoryStop
 pub mod MemoryLaws
 pub mod MemoryView
 pub mod Names
-pub mod Session
+pub mod Lines

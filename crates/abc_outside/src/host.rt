@@ -115,7 +115,8 @@ pub trait Host {
     /// store. Until a sync a stop may leave any bytes in the range that was written, and any size
     /// between.
     ///
-    /// Errors: [`Failed`]; then any part of the write may have been made.
+    /// Errors: [`Failed`]; then any part of the write may have been made. What the store reads as is one of the
+    /// images that a stop may leave, by `stop` and `reads_now`; no clause of its own says so.
     fn write_at(&mut self, at: u64, bytes: &[u8]) -> Result<(), Failed>
         requires { tells_image → at ≤ length (now self.old).image }
         ensures image { tells_image → OnOk result ((now self.new).image ≡ written (now self.old).image at bytes.now) }
@@ -129,7 +130,7 @@ pub trait Host {
     /// Cuts the store to its first `size` bytes, which are no more than it has. Until a sync a stop may
     /// leave any size between, with any bytes past the cut.
     ///
-    /// Errors: [`Failed`]; then the store may be cut or not.
+    /// Errors: [`Failed`]; then the store may be cut or not, as after a write that failed.
     fn cut(&mut self, size: u64) -> Result<(), Failed>
         requires { tells_image → size ≤ length (now self.old).image }
         ensures image { tells_image → OnOk result ((now self.new).image ≡ take size (now self.old).image) }
@@ -170,7 +171,8 @@ pub trait Host {
     /// A stop since a later moment is one since an earlier moment too.
     ghost since: { (host : Self) (earlier later : ℕ) (c s : List ℕ) → earlier ≤ later → stopped host later c s → stopped host earlier c s };
 
-    /// A stop at a moment leaves the bytes that were said until then.
+    /// A stop at a moment leaves the bytes that were said until then. This stands under no flag: a host that
+    /// does not tell what was said tells no stop.
     ghost says_now: { (host : Self) (c s : List ℕ) → stopped host (clock host) c s → s ≡ (now host).said };
 
     /// The image as it reads, with what was said, is one of the stops of its moment.

@@ -6,14 +6,18 @@ mod failing;
 mod files;
 mod host;
 mod laws;
+mod lines;
 mod memory;
+mod memory_lines;
 mod real;
 mod steps;
 
 pub use failing::{CallKind, Listed};
 pub use host::{ChooseFault, Failed, Host};
-pub use laws::{Opens, session_of_stops, stop_model};
+pub use laws::{lines_are_in_order, stop_model};
+pub use lines::{LineStop, Lines};
 pub use memory::MemoryHost;
+pub use memory_lines::MemoryLines;
 pub use real::RealHost;
 
 #[cfg(test)]

@@ -14,7 +14,8 @@ use std::alloc::Global;
 ///
 /// It keeps a record of the calls that change its image or what it said, by which it tells what a
 /// stop may leave. A call that finds no memory answers a fault, which [`MemoryHost::starved`]
-/// counts, and changes nothing else.
+/// counts, and changes nothing else, but that it is counted among the calls of its kind: those that
+/// are to fail come nearer, as after every call.
 #[derive(Drop)]
 pub struct MemoryHost {
     alloc: Global,

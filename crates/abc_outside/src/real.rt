@@ -12,6 +12,10 @@ use std::os::unix::fs::FileExt;
 ///
 /// It tells nothing of what stands in them. What it keeps for its contracts are its counts of faults,
 /// each of which rises at an Err and stays at 2^64 - 1, and the count of the bytes taken.
+///
+/// No other run opens the store while this host has it, and no store is opened that this run reads as its
+/// input or writes as its output. A read or a `say` waits until the stream is ready, also where whoever
+/// started the run asked for no wait.
 #[derive(Drop)]
 pub struct RealHost {
     rt: HostRuntime,
@@ -124,7 +128,8 @@ impl Host for RealHost {
                 Err(Failed) => return Err(ChooseFault::Input),
             },
         };
-        let Ok(file) = counted(open_store(&self.rt, store), &mut self.store_faults) else {
+        let file = open_store(&self.rt, store, &input, &self.store);
+        let Ok(file) = counted(file, &mut self.store_faults) else {
             return Err(ChooseFault::Store);
         };
         self.store = Some(file);
@@ -135,8 +140,8 @@ impl Host for RealHost {
 
     fn read(&mut self, buf: &mut [u8]) -> Result<usize, Failed> {
         let got = match &mut self.input {
-            Some(file) => read_some(file, buf),
-            None => read_some(&mut self.rt.stdin(), buf),
+            Some(file) => read_some(&self.rt, file, buf),
+            None => read_some(&self.rt, &mut self.rt.stdin(), buf),
         };
         let n = counted(got, &mut self.input_faults)?;
         self.taken = self.taken.saturating_add(n as u64);
@@ -165,7 +170,7 @@ impl Host for RealHost {
 
     fn say(&mut self, bytes: &[u8]) -> Result<usize, Failed> {
         counted(
-            write_some(&mut self.rt.stdout(), bytes),
+            write_some(&self.rt, &mut self.rt.stdout(), bytes),
             &mut self.sink_faults,
         )
     }

@@ -15,17 +15,10 @@ const KINDS: [CallKind; 8] = [
     CallKind::Say,
 ];
 
-/// A workspace that every image opens to.
-struct Any;
-
-impl Opens for Any {
-    ghost opens = { λ image workspace. Unit {0} };
-}
-
 #[test]
-fn laws_hold_of_a_host() {
+fn laws_hold() {
     stop_model();
-    session_of_stops::<MemoryHost, Any>();
+    lines_are_in_order();
 }
 
 /// A host over these bytes as its image and as its input.
@@ -40,166 +33,124 @@ fn host_of(alloc: Global, image: &[u8], input: &[u8]) -> Result<MemoryHost, Allo
 /// Whether a call of this kind is answered by Ok.
 fn succeeds(host: &mut MemoryHost, kind: CallKind) -> bool {
     match kind {
-        CallKind::Choose => host.choose("a.store", None).is_ok(),
+        CallKind::Choose => host.choose("a.store", Some("an.input")).is_ok(),
         CallKind::Read => host.read(&mut [0; 4]).is_ok(),
         CallKind::Size => host.size().is_ok(),
         CallKind::ReadAt => host.read_at(0, &mut []).is_ok(),
-        CallKind::WriteAt => host.write_at(0, b"x").is_ok(),
+        CallKind::WriteAt => host.write_at(0, b"XY").is_ok(),
         CallKind::Cut => host.cut(0).is_ok(),
         CallKind::Sync => host.sync().is_ok(),
-        CallKind::Say => host.say(b"x").is_ok(),
+        CallKind::Say => host.say(b"said").is_ok(),
     }
 }
 
+/// Whether calls of this kind, five in a row, are answered by Ok.
+fn answers(host: &mut MemoryHost, kind: CallKind) -> [bool; 5] {
+    let mut oks = [false; 5];
+    for ok in oks.iter_mut() {
+        *ok = succeeds(host, kind);
+    }
+    oks
+}
+
 #[test]
-fn each_kind_fails_where_it_is_listed(rt: HostRuntime) -> Result<(), Fail> {
+fn memory_answers_where_no_fault_is_listed(rt: HostRuntime) -> Result<(), Fail> {
+    let mut host = host_of(rt.alloc(), b"abcdef", b"one\ntwo")?;
+    host.say_at_most(3);
     for kind in KINDS {
-        let mut host = host_of(rt.alloc(), b"abc", b"line\n")?;
         host.fail_at(kind, 2)?;
         host.fail_at(kind, 4)?;
         host.fail_at(kind, 0)?;
-        for wanted in [true, false, true, false, true] {
-            assert_eq!(rt; succeeds(&mut host, kind), wanted, "{kind:?}");
-            for other in KINDS {
-                if other != kind {
-                    assert!(rt; succeeds(&mut host, other), "{other:?}");
-                }
-            }
-        }
-        assert_eq!(rt; host.starved(), 0);
+        assert!(rt; answers(&mut host, kind) == [true, false, true, false, true]);
     }
+    assert!(rt; host.starved() == 0);
+    assert!(rt; host.image().is_empty());
+    assert!(rt; host.said() == b"saisaisai".as_slice());
     Ok(())
 }
 
-#[test]
-fn memory_answers_each_call(rt: HostRuntime) -> Result<(), Fail> {
-    let mut host = host_of(rt.alloc(), b"abcdef", b"one\ntwo")?;
-    assert_eq!(rt; host.choose("a.store", Some("an.input")), Ok(()));
-    let mut piece = [0; 4];
-    assert_eq!(rt; host.read(&mut piece), Ok(4));
-    assert_eq!(rt; piece, *b"one\n");
-    assert_eq!(rt; host.read(&mut piece), Ok(3));
-    assert_eq!(rt; piece, *b"two\n");
-    assert_eq!(rt; host.read(&mut piece), Ok(0));
-    assert_eq!(rt; host.size(), Ok(6));
-    let mut back = [0; 2];
-    assert_eq!(rt; host.read_at(2, &mut back), Ok(()));
-    assert_eq!(rt; back, *b"cd");
-    assert_eq!(rt; host.write_at(1, b"XY"), Ok(()));
-    assert_eq!(rt; host.image(), b"aXYdef".as_slice());
-    assert_eq!(rt; host.sync(), Ok(()));
-    assert_eq!(rt; host.said(), b"".as_slice());
-    Ok(())
-}
-
-#[test]
-fn writes_in_place_and_past_the_end(rt: HostRuntime) -> Result<(), Fail> {
-    let rows: [(u64, &[u8], &[u8]); 4] = [
-        (0, b"XY", b"XYcdef"),
-        (4, b"WXYZ", b"abcdWXYZ"),
-        (6, b"gh", b"abcdefgh"),
-        (3, b"", b"abcdef"),
-    ];
-    for (at, bytes, after) in rows {
-        let mut host = host_of(rt.alloc(), b"abcdef", b"")?;
-        host.fail_at(CallKind::WriteAt, 1)?;
-        assert!(rt; at <= host.image().len() as u64);
-        assert_eq!(rt; host.write_at(at, bytes), Err(Failed));
-        assert_eq!(rt; host.image(), b"abcdef".as_slice(), "at {at}");
-        assert_eq!(rt; host.write_at(at, bytes), Ok(()));
-        assert_eq!(rt; host.image(), after, "at {at}");
+/// Whether the next line has these bytes, and is not long.
+fn is_next<L: Lines>(lines: &mut L, wanted: &str) -> bool {
+    match lines.next() {
+        Ok(Some(line)) => line.bytes.bytes() == wanted.as_bytes() && !line.long,
+        _ => false,
     }
-    Ok(())
 }
 
 #[test]
-fn cuts(rt: HostRuntime) -> Result<(), Fail> {
-    let rows: [(u64, &[u8]); 3] = [(0, b""), (4, b"abcd"), (6, b"abcdef")];
-    for (size, after) in rows {
-        let mut host = host_of(rt.alloc(), b"abcdef", b"")?;
-        host.fail_at(CallKind::Cut, 1)?;
-        assert!(rt; size <= host.image().len() as u64);
-        assert_eq!(rt; host.cut(size), Err(Failed));
-        assert_eq!(rt; host.image(), b"abcdef".as_slice(), "to {size}");
-        assert_eq!(rt; host.cut(size), Ok(()));
-        assert_eq!(rt; host.image(), after, "to {size}");
+fn memory_lines_are_cut(rt: HostRuntime) -> Result<(), Fail> {
+    let input = Vec::from_slice(rt.alloc(), b"one\r\n\n\rtwo")?;
+    let mut lines = MemoryLines::new(rt.alloc(), input);
+    for wanted in ["one", "", "\rtwo"] {
+        assert!(rt; is_next(&mut lines, wanted));
     }
+    assert!(rt; matches!(lines.next(), Ok(None)));
     Ok(())
 }
 
-#[test]
-fn says_pieces(rt: HostRuntime) -> Result<(), Fail> {
-    let mut host = host_of(rt.alloc(), b"", b"")?;
-    assert_eq!(rt; host.say(b"abc"), Ok(3));
-    host.say_at_most(2);
-    assert_eq!(rt; host.say(b"def"), Ok(2));
-    host.fail_at(CallKind::Say, 1)?;
-    assert_eq!(rt; host.say(b"ghi"), Err(Failed));
-    assert_eq!(rt; host.say(b"j"), Ok(1));
-    assert_eq!(rt; host.said(), b"abcdej".as_slice());
-    Ok(())
-}
-
-#[test]
-fn a_failed_choice_blames_the_input_that_is_named(rt: HostRuntime) -> Result<(), Fail> {
-    let rows = [
-        (None, ChooseFault::Store),
-        (Some("an.input"), ChooseFault::Input),
-    ];
-    for (input, fault) in rows {
-        let mut host = host_of(rt.alloc(), b"", b"")?;
-        host.fail_at(CallKind::Choose, 1)?;
-        assert_eq!(rt; host.choose("a.store", input), Err(fault));
-    }
-    Ok(())
-}
-
-#[test]
-fn real_answers_each_call(rt: HostRuntime) -> Result<(), Fail> {
-    let _ = fs::remove_file(&rt, "calls.store");
-    fs::write(&rt, "calls.input", "one\ntwo")?;
-    let mut host = RealHost::new(rt);
-    assert_eq!(rt; host.choose("calls.store", Some("calls.input")), Ok(()));
-    assert_eq!(rt; host.size(), Ok(0));
-    assert_eq!(rt; host.write_at(0, b"abcdef"), Ok(()));
-    assert_eq!(rt; host.write_at(4, b"EFG"), Ok(()));
-    assert_eq!(rt; host.size(), Ok(7));
-    assert_eq!(rt; host.cut(6), Ok(()));
+/// What the store has in the middle and at the end of some calls.
+fn use_store(host: &mut RealHost) -> Result<(u64, [u8; 4], u64), Failed> {
+    host.write_at(0, b"abcdef")?;
+    host.write_at(4, b"EFG")?;
+    let most = host.size()?;
+    host.cut(6)?;
     let mut back = [0; 4];
-    assert_eq!(rt; host.read_at(2, &mut back), Ok(()));
-    assert_eq!(rt; back, *b"cdEF");
-    assert_eq!(rt; host.read_at(3, &mut back), Err(Failed));
-    assert_eq!(rt; host.sync(), Ok(()));
-    let mut piece = [0; 16];
-    assert_eq!(rt; host.read(&mut piece), Ok(7));
-    assert_eq!(rt; &piece[..7], b"one\ntwo".as_slice());
-    assert_eq!(rt; host.read(&mut piece), Ok(0));
-    let kept = fs::read_to_string(&rt, "calls.store")?;
-    assert_eq!(rt; kept.as_str(), "abcdEF");
-    fs::remove_file(&rt, "calls.store")?;
-    fs::remove_file(&rt, "calls.input")?;
+    host.read_at(2, &mut back)?;
+    host.sync()?;
+    Ok((most, back, host.size()?))
+}
+
+#[test]
+fn real_keeps_what_was_written(rt: HostRuntime) -> Result<(), Fail> {
+    let _ = fs::remove_file(&rt, "kept.store");
+    fs::write(&rt, "kept.input", "one\ntwo")?;
+    for size in [0, 6] {
+        let mut host = RealHost::new(rt);
+        assert!(rt; host.choose("kept.store", Some("kept.input")) == Ok(()));
+        assert!(rt; host.size() == Ok(size));
+        assert!(rt; use_store(&mut host) == Ok((7, *b"cdEF", 6)));
+        let mut piece = [0; 16];
+        assert!(rt; host.read(&mut piece) == Ok(7));
+        assert!(rt; &piece[..7] == b"one\ntwo".as_slice());
+        assert!(rt; host.read(&mut piece) == Ok(0));
+    }
+    let kept = fs::read_to_string(&rt, "kept.store")?;
+    assert!(rt; kept.as_str() == "abcdEF");
+    fs::remove_file(&rt, "kept.store")?;
+    fs::remove_file(&rt, "kept.input")?;
     Ok(())
 }
 
 #[test]
-fn real_refuses_what_it_can_not_open(rt: HostRuntime) -> Result<(), Fail> {
+fn real_refuses_what_it_can_not_use(rt: HostRuntime) -> Result<(), Fail> {
     let _ = fs::remove_file(&rt, "refused.store");
+    fs::write(&rt, "refused.input", "")?;
     let rows = [
         ("", None, ChooseFault::Store),
         (".", None, ChooseFault::Store),
         ("no.folder/a.store", None, ChooseFault::Store),
         ("refused.store", Some("no.input"), ChooseFault::Input),
+        // The input of the same run.
+        ("refused.input", Some("./refused.input"), ChooseFault::Store),
     ];
     let mut host = RealHost::new(rt);
-    assert_eq!(rt; host.size(), Err(Failed));
+    assert!(rt; host.size() == Err(Failed));
     for (store, input, fault) in rows {
-        assert_eq!(rt; host.choose(store, input), Err(fault), "{store}");
+        assert!(rt; host.choose(store, input) == Err(fault));
     }
     assert!(rt; !fs::exists(&rt, "refused.store")?);
-    assert_eq!(rt; host.choose("refused.store", None), Ok(()));
+    // A folder opens, and can't be read: that is no end of the input.
+    assert!(rt; host.choose("refused.store", Some(".")) == Ok(()));
+    assert!(rt; host.read(&mut [0; 4]) == Err(Failed));
+    // The store is held by the first host, which may choose it again.
+    let mut other = RealHost::new(rt);
+    assert!(rt; other.choose("refused.store", None) == Err(ChooseFault::Store));
+    assert!(rt; host.choose("refused.store", None) == Ok(()));
+    assert!(rt; other.choose("refused.store", None) == Err(ChooseFault::Store));
     // Past 2^63 - 1 there is no place in a file.
-    assert_eq!(rt; host.write_at(1 << 63, b"x"), Err(Failed));
-    assert_eq!(rt; host.cut(1 << 63), Err(Failed));
+    assert!(rt; host.write_at(1 << 63, b"x") == Err(Failed));
+    assert!(rt; host.cut(1 << 63) == Err(Failed));
     fs::remove_file(&rt, "refused.store")?;
+    fs::remove_file(&rt, "refused.input")?;
     Ok(())
 }

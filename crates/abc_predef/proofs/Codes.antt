@@ -1,5 +1,5 @@
 -- The codes of a text.
-use Rattle.std.proofs.Common.{◌≡◌, ℕ, suc, zero, ◌+◌, ◌*◌, ◌≤◌, List, [], ◌∷◌, ◌++◌, length, take, refl, sym, ap, subst, ◌∙◌, arith, slice_get, Some, None, map, reverse, add-one}
+use Rattle.std.proofs.Common.{◌≡◌, ℕ, suc, zero, ◌+◌, ◌*◌, ◌≤◌, List, [], ◌∷◌, ◌++◌, length, take, refl, sym, ap, subst, ◌∙◌, arith, slice_get, Some, None, map, reverse, drop, add-one}
 use Rattle.abc_num.specs.declared.limits.TheConstants.{MOST_ELEMENTS}
 use Rattle.abc_value.specs.Tree.{Tree, number, text, compound, list, table}
 use Rattle.abc_value.specs.Sizes.{length_of}
@@ -14,7 +14,7 @@ use Rattle.abc_predef.specs.declared.characters.Case.TheVariants.{Capital, Small
 use Rattle.abc_predef.specs.Texts.{in_case, is_space, without_leading, stripped}
 use Rattle.abc_value.proofs.Characters.{characters-append}
 use Rattle.std.proofs.lemmas.Option.{slice_get_within, get_or_from_slice_get}
-use Rattle.std.proofs.lemmas.List.{append-nil, nil_from_length, take_more, length-append, append_assoc, length-reverse, reverse-append}
+use Rattle.std.proofs.lemmas.List.{append-nil, nil_from_length, take_more, length-append, length-take, length-drop, append_assoc, length-reverse, reverse-append}
 
 pub regular_codes : (t : Tree) → IsRegular t → AreCharacters (codes_of t) × (length (codes_of t) ≤ MOST_ELEMENTS)
 unfolding IsRegular
@@ -102,3 +102,20 @@ pub length-stripped : (b : List ℕ) → length (stripped b) ≤ length b
 length-stripped b =
     let front = without_leading b in
     omega (arith, length-leading b, length-reverse front, length-leading (reverse front), length-reverse (without_leading (reverse front)))
+
+-- a part of characters is of characters, and no longer
+pub characters-take : (n : ℕ) (b : List ℕ) → AreCharacters b → AreCharacters (take n b)
+characters-take zero b h = tt
+characters-take (suc n) [] h = tt
+characters-take (suc n) (c ∷ cs) h = (h.0, characters-take n cs h.1)
+
+pub characters-drop : (n : ℕ) (b : List ℕ) → AreCharacters b → AreCharacters (drop n b)
+characters-drop zero b h = h
+characters-drop (suc n) [] h = tt
+characters-drop (suc n) (c ∷ cs) h = characters-drop n cs h.1
+
+pub take_short : (n : ℕ) (b : List ℕ) → length b ≤ MOST_ELEMENTS → length (take n b) ≤ MOST_ELEMENTS
+take_short n b h = omega (arith, length-take n b)
+
+pub drop_short : (n : ℕ) (b : List ℕ) → length b ≤ MOST_ELEMENTS → length (drop n b) ≤ MOST_ELEMENTS
+drop_short n b h = omega (arith, length-drop n b)

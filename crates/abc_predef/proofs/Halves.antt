@@ -136,3 +136,13 @@ index_of_equal Greater = refl
 pub byte_is : (b : Bool) → bool_byte b ≡ cond b 1 0
 byte_is true = refl
 byte_is false = refl
+
+or_true : (t : Bool) → (t || true) ≡ true
+or_true true = refl
+or_true false = refl
+
+-- one that passes is among them
+pub one_at : (f : Tree → Bool) (xs : List Tree) (i : ℕ) (d : Tree) → i < length xs → f (get_or xs i d) ≡ true → list_any f xs ≡ true
+one_at f [] i d h e = absurd (omega arith)
+one_at f (x ∷ xs) zero d h e = ap (λ t. t || list_any f xs) e
+one_at f (x ∷ xs) (suc i) d h e = ap (λ t. f x || t) (one_at f xs i d (omega arith) e) ∙ or_true (f x)

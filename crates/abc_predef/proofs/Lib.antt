@@ -1,4 +1,5 @@
-pub mod Ratios
+pub mod Deciding
+pub mod Ends
 pub mod Operations
 pub mod Codes
 pub mod Elements
@@ -8,7 +9,7 @@ pub mod TableKeys
 pub mod Words
 pub mod WordTables
 pub mod Signatures
-pub mod Outers
+pub mod Spaces
 pub mod Operanded
 pub mod AllOperations
 pub mod Finding

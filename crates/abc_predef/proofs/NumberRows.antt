@@ -4,7 +4,7 @@ use Rattle.abc_num.specs.Number.{fraction}
 use Rattle.abc_tree.specs.declared.operations.Op.TheVariants as op
 use Rattle.abc_value.specs.declared.faults.RunFault.TheVariants as fault
 use Rattle.abc_value.specs.Tree.{number}
-use Rattle.abc_predef.specs.Numbers.{gcd_within, gcd, ratio}
+use Rattle.abc_num.specs.Ratio.{gcd_within, gcd, ratio}
 use Rattle.abc_predef.specs.Rows.{row_of_one, row_of_two}
 
 plus_rows :

@@ -16,7 +16,7 @@ use Rattle.abc_num.proofs.Powers.{int_pow-even, int_pow-odd}
 use Rattle.abc_num.proofs.Ratios.{pos_ne, product_pos}
 use Rattle.abc_num.proofs.Signs.{factor_ne}
 use Rattle.abc_predef.specs.Numbers.{unless_zero, sum_of, difference_of, product_of, quotient_of, rest_of, whole_power, power_to, power_of, whole_rounding, rounding_to, rounding_of}
-use Rattle.abc_predef.proofs.Ratios.{ratio_is}
+use Rattle.abc_num.proofs.Computed.{ratio_is}
 
 common_ne : (x y : Fraction) → IsNumber x → IsNumber y → pos (x.denominator * y.denominator) ≢ pos 0
 common_ne x y h k = pos_ne (x.denominator * y.denominator) (product_pos x.denominator y.denominator (denominator-positive x h) (denominator-positive y k))

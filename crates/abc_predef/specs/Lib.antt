@@ -9,6 +9,7 @@ pub mod Rows
 pub mod ResultTypes
 pub mod Signatures
 pub mod Spellings
+pub mod Taken
 pub mod Takes
 pub mod Texts
 pub mod Trains

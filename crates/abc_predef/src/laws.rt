@@ -2,6 +2,7 @@
 ghost use Rattle.abc_predef.specs.ResultTypes.{OneGivesItsType, TwoGiveTheirType};
 ghost use Rattle.abc_predef.specs.Signatures.{IsTypedSo};
 ghost use Rattle.abc_predef.specs.Spellings.{IsSpelledSo, IsSpelledOnlySo};
+ghost use Rattle.abc_predef.specs.Taken.{TakenIsExact};
 
 /// Each of the 43 operations stands in the table under its name or sign, with its number of operands, and under no other.
 pub fn operations_are_spelled()
@@ -18,4 +19,9 @@ pub fn operations_are_typed()
 pub fn results_have_their_types()
     ensures one { OneGivesItsType }
     ensures two { TwoGiveTheirType }
+{}
+
+/// Operands are taken, which says that types for the letters exist, exactly where it is computed by their forms.
+pub fn taken_is_exact()
+    ensures { TakenIsExact }
 {}

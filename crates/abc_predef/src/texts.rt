@@ -1,5 +1,5 @@
 //! The rows of texts.
-ghost use Rattle.std.specs.Prelude.{◌≡◌, ◌≤◌, ◌*◌, nat_lt, length, map, IfOk, IfErr, Ok};
+ghost use Rattle.std.specs.Prelude.{◌≡◌, ◌≤◌, ◌*◌, nat_lt, length, map, take, drop, IfOk, IfErr, Ok};
 ghost use Rattle.std.specs.List.{repeat};
 ghost use Rattle.abc_num.specs.Number.{whole_of};
 ghost use Rattle.abc_value.specs.Tree.{text};
@@ -23,6 +23,43 @@ pub(crate) fn codes(alloc: Global, t: &Value) -> Result<Vec<u8>, ValueFault>
 {
     let mut codes = Vec::with_capacity(alloc, t.len())?;
     while let Some(code) = t.byte(codes.len()) {
+        codes.push(code)?;
+    }
+    Ok(codes)
+}
+
+/// The codes of a text from a place on, which counts from 0. No other code is looked at.
+fn codes_from(alloc: Global, t: &Value, start: usize) -> Result<Vec<u8>, ValueFault>
+    requires { start ≤ length (codes_of t.now) }
+    ensures ok { IfOk result (λ v. v.items ≡ drop start (codes_of t.now)) }
+    ensures err { IfErr result (λ f. f ≡ ValueFault.Memory) }
+    ensures characters { AreCharacters (drop start (codes_of t.now)) }
+    ensures short { length (drop start (codes_of t.now)) ≤ MOST_ELEMENTS }
+{
+    // Its clause tells that the codes are those of characters.
+    let length = t.len();
+    let mut codes = Vec::with_capacity(alloc, length.saturating_sub(start))?;
+    while let Some(code) = t.byte(start + codes.len()) {
+        codes.push(code)?;
+    }
+    Ok(codes)
+}
+
+/// The codes of a text up to a place, which is not past its end. No other code is looked at.
+fn codes_up_to(alloc: Global, t: &Value, end: usize) -> Result<Vec<u8>, ValueFault>
+    requires { end ≤ length (codes_of t.now) }
+    ensures ok { IfOk result (λ v. v.items ≡ take end (codes_of t.now)) }
+    ensures err { IfErr result (λ f. f ≡ ValueFault.Memory) }
+    ensures characters { AreCharacters (take end (codes_of t.now)) }
+    ensures short { length (take end (codes_of t.now)) ≤ MOST_ELEMENTS }
+{
+    // Its clause tells that the codes are those of characters.
+    let _length = t.len();
+    let mut codes = Vec::with_capacity(alloc, end)?;
+    for i in 0..end {
+        let Some(code) = t.byte(i) else {
+            unreachable!()
+        };
         codes.push(code)?;
     }
     Ok(codes)
@@ -72,8 +109,8 @@ pub(crate) fn behead(alloc: Global, t: &Value, p: &Num) -> Result<Value, ValueFa
     if place < 1 || place > t.len() as u128 + 1 {
         return Err(ValueFault::OutOfRange);
     }
-    let all = codes(alloc, t)?;
-    short_text(alloc, &all[place as usize - 1..])
+    let part = codes_from(alloc, t, place as usize - 1)?;
+    short_text(alloc, &part)
 }
 
 /// `t | n`: the first `n` characters.
@@ -85,8 +122,8 @@ pub(crate) fn curtail(alloc: Global, t: &Value, n: &Num) -> Result<Value, ValueF
     if count > t.len() as u128 {
         return Err(ValueFault::OutOfRange);
     }
-    let all = codes(alloc, t)?;
-    short_text(alloc, &all[..count as usize])
+    let part = codes_up_to(alloc, t, count as usize)?;
+    short_text(alloc, &part)
 }
 
 /// `t ^^ n`: the text `n` times.

@@ -6,7 +6,7 @@ ghost use Rattle.abc_value.specs.Order.{order};
 ghost use Rattle.abc_value.specs.Parts.{IsText, IsList};
 ghost use Rattle.abc_value.specs.Items.{IsAnswer, IsTrain, elements_of};
 ghost use Rattle.abc_predef.specs.Trains.{count_of, is_in};
-ghost use Rattle.abc_predef.specs.inner.Places.{IsLike, element_at, is_on};
+ghost use Rattle.abc_predef.specs.inner.Places.{IsFront, IsLike, element_at, is_on};
 
 use crate::numbers::place_number;
 use abc_value::{Kind, Value, ValueFault};
@@ -104,7 +104,24 @@ pub(crate) fn contains(e: &Value, t: &Value) -> bool
     requires like { IsLike e.now t.now }
     ensures { result ≡ is_in e.now t.now }
 {
-    count(e, t) > 0
+    match t.kind() {
+        Kind::List => count(e, t) > 0,
+        _ => is_among(e, t),
+    }
+}
+
+/// Whether an element equals `e`, by a look at each up to the first that does.
+fn is_among(e: &Value, t: &Value) -> bool
+    requires train { IsTrain t.now }
+    requires like { IsLike e.now t.now }
+    ensures { result ≡ is_in e.now t.now }
+{
+    for i in 0..t.len() {
+        if order_at(t, i, e) == Ordering::Equal {
+            return true;
+        }
+    }
+    false
 }
 
 /// The values that are less than another, or those that are not greater.
@@ -125,9 +142,10 @@ fn is_on(side: Side, order: Ordering) -> bool
 }
 
 /// How many elements of a list are on a side of `e`, by halves: they stand in front.
-fn count_on(t: &Value, e: &Value, side: Side) -> usize
+pub(crate) fn count_on(t: &Value, e: &Value, side: Side) -> usize
     requires { IsList t.now }
-    ensures { result ≡ count_by (λ x. is_on side (order x e.now)) (elements_of t.now) }
+    ensures count { result ≡ count_by (λ x. is_on side (order x e.now)) (elements_of t.now) }
+    ensures front { IsFront (λ x. is_on side (order x e.now)) t.now result }
 {
     let mut low = 0;
     let mut high = t.len();

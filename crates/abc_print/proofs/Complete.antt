@@ -5,7 +5,6 @@ use Rattle.abc_value.specs.Tree.{Tree}
 use Rattle.abc_print.specs.declared.frames.Mark.{Mark}
 use Rattle.abc_print.specs.declared.frames.Mark.TheVariants as mark
 use Rattle.abc_print.specs.declared.frames.Lexeme.{Lexeme}
-use Rattle.abc_print.specs.declared.frames.Pair.{Pair}
 use Rattle.abc_print.specs.declared.frames.Frame.{Frame}
 use Rattle.abc_print.specs.declared.frames.Frame.TheVariants as f
 use Rattle.abc_print.specs.declared.frames.Turn.{Turn}
@@ -21,10 +20,10 @@ GoesOn m frame stack = (so_far : List Tree) (t : Tree) (us : List Lexeme) → ru
 abbrev EndsIn : List Lexeme → (List Tree → Frame) → List Frame → (List Tree → Option Tree) → Type 0
 EndsIn rest frame stack after = (so_far : List Tree) (t : Tree) → run rest (frame so_far ∷ stack) (turn.Behind t) ≡ after (so_far ++ t ∷ [])
 
-abbrev EndsPairs : List Lexeme → List Frame → (List Pair → Option Tree) → Type 0
-EndsPairs rest stack after = (so_far : List Pair) (k a : Tree) → run rest (f.Associate so_far k ∷ stack) (turn.Behind a) ≡ after (so_far ++ pair_of k a ∷ [])
+abbrev EndsPairs : List Lexeme → List Frame → (List (Tree × Tree) → Option Tree) → Type 0
+EndsPairs rest stack after = (so_far : List (Tree × Tree)) (k a : Tree) → run rest (f.Associate so_far k ∷ stack) (turn.Behind a) ≡ after (so_far ++ pair_of k a ∷ [])
 
-abbrev StartsKey : Frame → Turn → List Pair → List Frame → Type 0
+abbrev StartsKey : Frame → Turn → List (Tree × Tree) → List Frame → Type 0
 StartsKey frame at so_far stack = (us : List Lexeme) → run (sign mark.Bracket ∷ us) (frame ∷ stack) at ≡ run us (f.Key so_far [] ∷ stack) turn.Part
 
 mutual
@@ -49,8 +48,8 @@ mutual
   complete_parts (more {t = t} {ts = ts} {us = us} p ps) frame stack after goes end so_far =
       complete_part p (frame so_far ∷ stack) ∙ goes so_far t us ∙ complete_parts ps frame stack after goes end (so_far ++ t ∷ []) ∙ ap after (append_assoc so_far (t ∷ []) ts)
 
-  complete_pairs : {ps : List Pair} {ls rest : List Lexeme} → ArePairs ps ls rest → (stack : List Frame) (after : List Pair → Option Tree)
-      → EndsPairs rest stack after → (so_far : List Pair) (frame : Frame) (at : Turn) → StartsKey frame at so_far stack → run ls (frame ∷ stack) at ≡ after (so_far ++ ps)
+  complete_pairs : {ps : List (Tree × Tree)} {ls rest : List Lexeme} → ArePairs ps ls rest → (stack : List Frame) (after : List (Tree × Tree) → Option Tree)
+      → EndsPairs rest stack after → (so_far : List (Tree × Tree)) (frame : Frame) (at : Turn) → StartsKey frame at so_far stack → run ls (frame ∷ stack) at ≡ after (so_far ++ ps)
   complete_pairs (one_pair {k = k} {a = a} {ls = ls} {us = us} keys e p) stack after end so_far frame at start =
       start ls
       ∙ complete_parts keys (λ ts. f.Key so_far ts) stack (λ ts. given (fielded ts) (λ v. run us (f.Associate so_far v ∷ stack) turn.Part)) (λ done t vs. refl) (λ done t. refl) []

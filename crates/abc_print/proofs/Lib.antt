@@ -1,5 +1,5 @@
-pub mod Collecting
 pub mod Complete
+pub mod Computing
 pub mod Contents
 pub mod Displays
 pub mod Lining

@@ -19,7 +19,7 @@ use Rattle.abc_print.proofs.Tokenwise.{one_value, one_quotient}
 use Rattle.abc_print.proofs.Words.{to_lexed}
 
 -- what was read of a number is one
-abbrev HasNumber : State → Type 0
+abbrev pub HasNumber : State → Type 0
 HasNumber state.Start = Unit {0}
 HasNumber (state.Signed s) = Unit {0}
 HasNumber (state.Numbered x) = IsNumber x
@@ -31,7 +31,7 @@ negated (pos zero) d h = h
 negated (pos (suc n)) d h = h
 negated (negsuc n) d h = h
 
-signed_number : (s : Bool) (x : Fraction) → IsNumber x → IsNumber (with_sign s x)
+pub signed_number : (s : Bool) (x : Fraction) → IsNumber x → IsNumber (with_sign s x)
 signed_number false x h = h
 signed_number true x h = negated x.numerator x.denominator h
 

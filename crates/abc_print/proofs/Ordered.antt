@@ -13,8 +13,8 @@ use Rattle.abc_value.proofs.Adding.{no_fault, tail_ordered}
 use Rattle.abc_value.proofs.OrderLaws.{order-reverse}
 use Rattle.abc_value.proofs.RisingKeys.{tail_rising, Below, below_all}
 use Rattle.abc_value.proofs.Rows.{trees_listed, pairs_listed}
-use Rattle.abc_print.specs.declared.frames.Pair.{Pair}
-use Rattle.abc_print.specs.Literals.{if_small, by_fault, in_order, listed, with_new, placed, tabled}
+use Rattle.abc_value.specs.Changes.{in_order, with_new, placed}
+use Rattle.abc_print.specs.Literals.{if_small, by_fault, listed, tabled}
 
 -- ---- sizes
 
@@ -53,9 +53,9 @@ list_back ts s h = ap (λ es. if_small (list (trees es))) (stays ts h) ∙ ap (�
 -- ---- tables
 
 -- the pairs of a row as literals have them
-abbrev pub pair_list : Pairs → List Pair
+abbrev pub pair_list : Pairs → List (Tree × Tree)
 pair_list no_pairs = []
-pair_list (pair k a ps) = record { key = k; associate = a } ∷ pair_list ps
+pair_list (pair k a ps) = (k, a) ∷ pair_list ps
 
 above : (k l : Tree) → order k l ≡ Less → order l k ≡ Greater
 above k l h = order-reverse l k ∙ ap ordering_reverse h

@@ -6,7 +6,6 @@ use Rattle.abc_print.specs.declared.frames.Mark.{Mark}
 use Rattle.abc_print.specs.declared.frames.Mark.TheVariants as mark
 use Rattle.abc_print.specs.declared.frames.Lexeme.{Lexeme}
 use Rattle.abc_print.specs.declared.frames.Lexeme.TheVariants as lexeme
-use Rattle.abc_print.specs.declared.frames.Pair.{Pair}
 use Rattle.abc_print.specs.declared.frames.Frame.{Frame}
 use Rattle.abc_print.specs.declared.frames.Frame.TheVariants as f
 use Rattle.abc_print.specs.declared.frames.Turn.{Turn}
@@ -19,8 +18,8 @@ record Sofar (m : Mark) (parts : List Tree) (us ts : List Lexeme) : Type 0 where
   goes_on : (others : List Tree) (rest : List Lexeme) → AreParts m others ts rest → AreParts m (parts ++ others) us rest
   start : parts ≡ [] → us ≡ ts
 
-record SofarPairs (pairs : List Pair) (us ts : List Lexeme) : Type 0 where
-  goes_on : (others : List Pair) (rest : List Lexeme) → ArePairs others ts rest → ArePairs (pairs ++ others) us rest
+record SofarPairs (pairs : List (Tree × Tree)) (us ts : List Lexeme) : Type 0 where
+  goes_on : (others : List (Tree × Tree)) (rest : List Lexeme) → ArePairs others ts rest → ArePairs (pairs ++ others) us rest
 
 sofar_none : (m : Mark) (ts : List Lexeme) → Sofar m [] ts ts
 sofar_none m ts = record { goes_on = λ _ _ p. p; start = λ _. refl }
@@ -71,13 +70,13 @@ module _ (all : List Lexeme) where
   Stands stack (turn.Behind a) ts = HasRead stack a ts
 
   -- one pair more, whose key was read
-  pairs_more : (ps : List Pair) (k a : Tree) (ks : List Tree) (us vs ws ts : List Lexeme) → SofarPairs ps us (sign mark.Bracket ∷ vs)
+  pairs_more : (ps : List (Tree × Tree)) (k a : Tree) (ks : List Tree) (us vs ws ts : List Lexeme) → SofarPairs ps us (sign mark.Bracket ∷ vs)
       → AreParts mark.Comma ks vs (sign mark.Unbracket ∷ sign mark.Colon ∷ ws) → fielded ks ≡ Some k → IsPart a ws (sign mark.Semicolon ∷ ts) → SofarPairs (ps ++ pair_of k a ∷ []) us ts
   pairs_more ps k a ks us vs ws ts h keys e p = record {
-    goes_on = λ others rest q. subst (λ (x : List Pair). ArePairs x us rest) (sym (append_assoc ps (pair_of k a ∷ []) others)) (h.goes_on (pair_of k a ∷ others) rest (more_pairs keys e p q));
+    goes_on = λ others rest q. subst (λ (x : List (Tree × Tree)). ArePairs x us rest) (sym (append_assoc ps (pair_of k a ∷ []) others)) (h.goes_on (pair_of k a ∷ others) rest (more_pairs keys e p q));
   }
 
-  pairs_all : (ps : List Pair) (k a : Tree) (ks : List Tree) (us vs ws rest : List Lexeme) → SofarPairs ps us (sign mark.Bracket ∷ vs)
+  pairs_all : (ps : List (Tree × Tree)) (k a : Tree) (ks : List Tree) (us vs ws rest : List Lexeme) → SofarPairs ps us (sign mark.Bracket ∷ vs)
       → AreParts mark.Comma ks vs (sign mark.Unbracket ∷ sign mark.Colon ∷ ws) → fielded ks ≡ Some k → IsPart a ws rest → ArePairs (ps ++ pair_of k a ∷ []) us rest
   pairs_all ps k a ks us vs ws rest h keys e p = h.goes_on (pair_of k a ∷ []) rest (one_pair keys e p)
 

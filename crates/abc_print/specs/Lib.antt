@@ -1,3 +1,4 @@
+pub mod Computed
 pub mod inner
 pub mod Laws
 pub mod Lexemes

@@ -3,12 +3,11 @@ use Rattle.std.specs.Prelude.{◌≡◌, List, [], ◌∷◌, Option, Some, None
 use Rattle.abc_value.specs.Tree.{Tree, compound, list, trees, empty, table_of}
 use Rattle.abc_value.specs.Sizes.{size_fault}
 use Rattle.abc_value.specs.declared.faults.ValueFault.{ValueFault}
-use Rattle.abc_value.specs.Changes.{add, with_pair, associate_of}
+use Rattle.abc_value.specs.Changes.{in_order, placed}
 use Rattle.abc_print.specs.declared.frames.Mark.{Mark}
 use Rattle.abc_print.specs.declared.frames.Mark.TheVariants as mark
 use Rattle.abc_print.specs.declared.frames.Lexeme.{Lexeme}
 use Rattle.abc_print.specs.declared.frames.Lexeme.TheVariants as lexeme
-use Rattle.abc_print.specs.declared.frames.Pair.{Pair}
 
 -- a tree that is a value, where its sizes are within their bounds
 abbrev pub by_fault : Tree → Option ValueFault → Option Tree
@@ -23,27 +22,12 @@ abbrev pub fielded : List Tree → Option Tree
 fielded (t ∷ []) = Some t
 fielded ts = if_small (compound (trees ts))
 
--- elements, put in order
-abbrev pub in_order : List Tree → List Tree
-in_order [] = []
-in_order (e ∷ es) = add e (in_order es)
-
 -- the list of these elements
 abbrev pub listed : List Tree → Option Tree
 listed es = if_small (list (trees (in_order es)))
 
--- pairs with a pair more, where its key has none among them yet
-abbrev pub with_new : Tree → Tree → Option Tree → List (Tree × Tree) → List (Tree × Tree)
-with_new k a None ps = with_pair k a ps
-with_new k a (Some b) ps = ps
-
--- pairs, put in order; a later pair takes the place of an earlier one with its key
-abbrev pub placed : List Pair → List (Tree × Tree)
-placed [] = []
-placed (p ∷ ps) = with_new p.key p.associate (associate_of p.key (placed ps)) (placed ps)
-
 -- the table of these pairs
-abbrev pub tabled : List Pair → Option Tree
+abbrev pub tabled : List (Tree × Tree) → Option Tree
 tabled ps = if_small (table_of (placed ps))
 
 abbrev pub sign : Mark → Lexeme
@@ -58,7 +42,7 @@ mutual
     nothing : {rest : List Lexeme} → IsPart empty (sign mark.Brace ∷ sign mark.Unbrace ∷ rest) rest
     elements : {t : Tree} {es : List Tree} {ls rest : List Lexeme} → AreParts mark.Semicolon es ls (sign mark.Unbrace ∷ rest)
         → listed es ≡ Some t → IsPart t (sign mark.Brace ∷ ls) rest
-    associations : {t : Tree} {ps : List Pair} {ls rest : List Lexeme} → ArePairs ps ls (sign mark.Unbrace ∷ rest)
+    associations : {t : Tree} {ps : List (Tree × Tree)} {ls rest : List Lexeme} → ArePairs ps ls (sign mark.Unbrace ∷ rest)
         → tabled ps ≡ Some t → IsPart t (sign mark.Brace ∷ ls) rest
 
   pub data AreParts : Mark → List Tree → List Lexeme → List Lexeme → Type 0 where
@@ -66,13 +50,13 @@ mutual
     more : {m : Mark} {t : Tree} {ts : List Tree} {ls us rest : List Lexeme} → IsPart t ls (sign m ∷ us) → AreParts m ts us rest
         → AreParts m (t ∷ ts) ls rest
 
-  pub data ArePairs : List Pair → List Lexeme → List Lexeme → Type 0 where
+  pub data ArePairs : List (Tree × Tree) → List Lexeme → List Lexeme → Type 0 where
     one_pair : {k a : Tree} {ks : List Tree} {ls us rest : List Lexeme} → AreParts mark.Comma ks ls (sign mark.Unbracket ∷ sign mark.Colon ∷ us)
-        → fielded ks ≡ Some k → IsPart a us rest → ArePairs (record { key = k; associate = a } ∷ []) (sign mark.Bracket ∷ ls) rest
-    more_pairs : {k a : Tree} {ks : List Tree} {ps : List Pair} {ls us vs rest : List Lexeme}
+        → fielded ks ≡ Some k → IsPart a us rest → ArePairs ((k, a) ∷ []) (sign mark.Bracket ∷ ls) rest
+    more_pairs : {k a : Tree} {ks : List Tree} {ps : List (Tree × Tree)} {ls us vs rest : List Lexeme}
         → AreParts mark.Comma ks ls (sign mark.Unbracket ∷ sign mark.Colon ∷ us) → fielded ks ≡ Some k
         → IsPart a us (sign mark.Semicolon ∷ vs) → ArePairs ps vs rest
-        → ArePairs (record { key = k; associate = a } ∷ ps) (sign mark.Bracket ∷ ls) rest
+        → ArePairs ((k, a) ∷ ps) (sign mark.Bracket ∷ ls) rest
 
 -- the lexemes spell this value: fields with commas between them
 abbrev pub IsLiteral : Tree → List Lexeme → Type 0

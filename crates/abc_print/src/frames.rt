@@ -24,13 +24,6 @@ pub(crate) enum Lexeme {
     Mark(Mark),
 }
 
-/// A key and its associate.
-#[derive(Drop)]
-pub(crate) struct Pair {
-    pub(crate) key: Value,
-    pub(crate) associate: Value,
-}
-
 /// A bracket that is open, with the parts before the last one.
 #[derive(Drop)]
 pub(crate) enum Frame {
@@ -40,12 +33,12 @@ pub(crate) enum Frame {
     Round(Items<Value>),
     /// The elements of a list; without one, of what may be a table yet.
     Elements(Items<Value>),
-    /// The pairs of a table, behind which another comes.
-    Pairs(Items<Pair>),
+    /// The pairs of a table, each a key and its associate, behind which another comes.
+    Pairs(Items<(Value, Value)>),
     /// Pairs, and the fields of a key.
-    Key(Items<Pair>, Items<Value>),
+    Key(Items<(Value, Value)>, Items<Value>),
     /// Pairs, and a key that has no associate yet.
-    Associate(Items<Pair>, Value),
+    Associate(Items<(Value, Value)>, Value),
 }
 
 /// What comes next.

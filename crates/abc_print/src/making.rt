@@ -4,7 +4,6 @@ ghost use Rattle.abc_print.specs.Literals.{fielded, listed, tabled};
 ghost use Rattle.abc_print.specs.inner.Machine.{Gives, refusal, pair_of};
 
 use crate::LiteralFault;
-use crate::frames::Pair;
 use abc_num::Items;
 use abc_value::{Value, ValueFault};
 use std::alloc::Global;
@@ -42,38 +41,24 @@ pub(crate) fn list_value(
     ensures { Gives result (listed (elements ++ last ∷ [])) }
 {
     elements.push(last)?;
-    let mut rest = elements.into_vec();
-    let mut all = Value::empty(alloc);
-    while let Some(element) = rest.pop() {
-        match all.insert(element) {
-            Ok(()) => {}
-            Err(fault) => return Err(refused(fault)),
-        }
+    match Value::list(alloc, elements.into_vec()) {
+        Ok(value) => Ok(value),
+        Err(fault) => Err(refused(fault)),
     }
-    Ok(all)
 }
 
-/// The table of the pairs.
+/// The table of the pairs; a later pair takes the place of an earlier one with its key.
 pub(crate) fn table_value(
     alloc: Global,
-    mut pairs: Items<Pair>,
+    mut pairs: Items<(Value, Value)>,
     key: Value,
     associate: Value,
 ) -> Result<Value, LiteralFault>
     ensures { Gives result (tabled (pairs ++ pair_of key associate ∷ [])) }
 {
-    pairs.push(Pair { key, associate })?;
-    let mut rest = pairs.into_vec();
-    let mut all = Value::empty(alloc);
-    while let Some(pair) = rest.pop() {
-        let Pair { key, associate } = pair;
-        if all.get(&key).is_some() {
-            continue;
-        }
-        match all.put(key, associate) {
-            Ok(()) => {}
-            Err(fault) => return Err(refused(fault)),
-        }
+    pairs.push((key, associate))?;
+    match Value::table(alloc, pairs.into_vec()) {
+        Ok(value) => Ok(value),
+        Err(fault) => Err(refused(fault)),
     }
-    Ok(all)
 }

@@ -2,7 +2,7 @@
 ghost use Rattle.abc_print.specs.inner.Machine.{Steps, emptied, first_key, later_key, at_part, at_bracket, at_colon, with_field, with_entry, closed, unbracketed, unbraced, behind, at_mark};
 
 use crate::LiteralFault;
-use crate::frames::{Frame, Mark, Pair, Turn};
+use crate::frames::{Frame, Mark, Turn};
 use crate::making::{fields_value, list_value, table_value};
 use abc_num::{Items, Stack};
 use abc_value::Value;
@@ -159,10 +159,7 @@ fn semicolon(stack: &mut Stack<Frame>, last: Value) -> Result<Turn, LiteralFault
             Ok(Turn::Part)
         }
         Some(Frame::Associate(mut pairs, key)) => {
-            pairs.push(Pair {
-                key,
-                associate: last,
-            })?;
+            pairs.push((key, last))?;
             stack.push(Frame::Pairs(pairs))?;
             Ok(Turn::Bracket)
         }

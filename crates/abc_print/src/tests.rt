@@ -1,11 +1,11 @@
-//! What no clause says: that ample memory is enough, where the text fits and where it doesn't.
-ghost use Rattle.std.specs.Prelude.{◌≤◌, length};
+//! What no clause says: that ample memory is enough, where the text fits and where it doesn't. Worked lines are the rows of
+//! abc_printed.
 
 use crate::*;
 use abc_num::Num;
-use abc_num::limits::MOST_LINE_BYTES;
 use abc_value::{Value, ValueFault};
 use std::alloc::Global;
+use std::cmp::Ordering;
 
 /// The compound of a half and a text with both signs that are doubled, which is `(0.5, "a""b``")` as a display and
 /// `0.5 a"b` with a backquote as it is written.
@@ -56,43 +56,12 @@ fn a_written_value_fits_exactly(rt: HostRuntime) -> Result<(), ValueFault> {
     Ok(())
 }
 
-/// Whether the line spells the value with this display.
-fn reads(alloc: Global, line: &[u8], display: &[u8]) -> Result<bool, LiteralFault>
-    requires { length line.now ≤ MOST_LINE_BYTES }
-{
-    let value = read_literal_line(alloc, line)?;
-    Ok(matches!(&display_of(alloc, &value, 100), Ok(bytes) if bytes.as_slice() == display))
-}
-
 #[test]
-fn displays_are_read_back(rt: HostRuntime) -> Result<(), LiteralFault> {
+fn a_line_is_read(rt: HostRuntime) -> Result<(), ValueFault> {
     displays_read_back();
     let alloc = rt.alloc();
-    let parts = b"(-0.25, -7/3, \"a\"\"b``\", {})";
-    assert!(rt; reads(alloc, parts, parts)?);
-    let table = b"{[(1, 2)]: {-1; 1/3}; [(1, 3)]: \"\"; [{}]: ({}, {[0]: 0})}";
-    assert!(rt; reads(alloc, table, table)?);
-    Ok(())
-}
-
-#[test]
-fn lines_are_read(rt: HostRuntime) -> Result<(), LiteralFault> {
-    let alloc = rt.alloc();
-    assert!(rt; reads(alloc, b"(1, 'it''s')", b"(1, \"it's\")")?);
-    assert!(rt;
-        reads(
-            alloc,
-            b"{[1]: 2; [0]: -1/2; [1]: {3; 1}} \\ the last 1 stays",
-            b"{[0]: -0.5; [1]: {1; 3}}"
-        )?
-    );
-    assert_eq!(rt;
-        read_literal_line(alloc, b"1 2").err(),
-        Some(LiteralFault::BadInput)
-    );
-    assert_eq!(rt;
-        read_literal_line(alloc, b"1/0").err(),
-        Some(LiteralFault::BadInput)
-    );
+    let read = read_literal_line(alloc, b"1/2, 'a\"b``'");
+    let worked = worked(alloc)?;
+    assert!(rt; matches!(&read, Ok(value) if value.cmp(&worked) == Ordering::Equal));
     Ok(())
 }

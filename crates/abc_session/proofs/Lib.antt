@@ -7,8 +7,8 @@ mod Changes
 mod Forms
 mod LineParts
 mod Pieces
-mod Cutting
 mod Started
+mod FirstLines
 mod Asks
 mod Saying
 mod Replay
@@ -16,9 +16,11 @@ mod Opening
 mod Spelling
 mod Outcomes
 mod Replies
+mod Refusals
 mod Stops
+mod Broken
+mod Items
 mod Turns
 mod Places
-mod Broken
 mod Runs
 mod AskingRows

@@ -1,21 +1,23 @@
 -- The outcome of a value that is put.
 use Rattle.std.proofs.Common.{◌≡◌, ◌⊎◌, inl, inr, ⊎_elim, ℕ, ◌≤◌, ℤ, false, List, ◌++◌, length, take, refl, sym, ◌∙◌, ap, subst, arith}
 use Rattle.std.specs.Prelude.{Ok}
-use Rattle.std.proofs.lemmas.Bool.{le-ltb}
+use Rattle.std.proofs.lemmas.Bool.{le-leb}
 use Rattle.abc_outside.specs.Stop.{Leaves, IsQuiet}
-use Rattle.abc_outside.specs.Session.{IsInCommit, IsInSaying}
+use Rattle.abc_turns.specs.Stops.{IsInCommit, IsInSaying}
 use Rattle.abc_outside.proofs.Leaves.{weaken}
+use Rattle.abc_journal.specs.declared.layout.Bounds.{Bounds}
 use Rattle.abc_journal.specs.Journal.{need_of}
 use Rattle.abc_session.specs.Targets.{value_of, is_same}
 use Rattle.abc_session.specs.Record.{spelled}
-use Rattle.abc_session.specs.Session.{Work, put_outcome, stored}
+use Rattle.abc_session.specs.Session.{Work, put_outcome}
+use Rattle.abc_session.specs.inner.Stored.{stored}
 use Rattle.abc_session.specs.Serving.{OpensTo, Holds}
 use Rattle.abc_session.proofs.Opening.{opens_extended}
 
-pub put_stored : (bound k : ℕ) (work : Work) (name : List ℕ) (value : ℤ) → is_same (value_of name work.targets) value ≡ false → need_of work.layout (length (spelled (name, value))) ≤ bound
-    → (put_outcome bound k work name value).work ≡ stored work name value
-put_stored bound k work name value other fits =
-    rw other (rw (le-ltb bound (need_of work.layout (length (spelled (name, value)))) fits) refl)
+pub put_stored : (bounds : Bounds) (k : ℕ) (work : Work) (name : List ℕ) (value : ℤ) → is_same (value_of name work.kept.targets) value ≡ false → need_of work.layout (length (spelled (name, value))) ≤ bounds.image
+    → (put_outcome bounds k work name value).work ≡ stored work name value
+put_stored bounds k work name value other fits =
+    rw other (rw (le-leb (need_of work.layout (length (spelled (name, value)))) bounds.image fits) refl)
 
 pub put_stops : {H : Type 0} (clock : H → ℕ) (stopped : H → ℕ → List ℕ → List ℕ → Type 0) (old new : H) (said : List ℕ) (work later after : Work) → after ≡ later
     → Leaves clock stopped old new (λ c s. (s ≡ said) × (OpensTo c work ⊎ OpensTo c later)) → Leaves clock stopped old new (IsInCommit OpensTo work after said)
@@ -32,5 +34,5 @@ saying_stops clock stopped mid new image said said_mid bytes reply kept work is 
       count = p.0;
       inside = omega (arith, p.1, ap length is);
       front = p.2 ∙ ap (λ (l : List ℕ). l ++ take p.0 bytes) same ∙ ap (λ (l : List ℕ). said ++ take p.0 l) (sym is);
-      image = opens_extended image c kept.layout kept.targets holds.layout holds.opens_to (quiet c said_mid p.3) ∙ ap (λ (w : Work). Ok w.targets) keeps;
+      image = opens_extended image c kept.layout kept.kept holds.layout holds.opens_to (quiet c said_mid p.3) ∙ ap (λ (w : Work). Ok w.kept) keeps;
     })

@@ -1,8 +1,8 @@
 -- The parts of a piece of the input.
 use Rattle.std.proofs.Common.{◌≡◌, ℕ, zero, suc, ◌+◌, ◌-◌, ◌<◌, ◌≤◌, true, false, List, [], ◌∷◌, ◌++◌, length, take, drop, get_or, sym, ◌∙◌, ap, arith, take-append-drop, length-take, length-drop}
 use Rattle.std.proofs.lemmas.List.{drop_more, drop-take, drop-drop, take_all, append-nil}
-use Rattle.abc_session.specs.Lines.{Line, line_of}
-use Rattle.abc_session.specs.inner.Reading.{HasNoLf, TookPart}
+use Rattle.abc_num.specs.Lines.{HasNoLf}
+use Rattle.abc_session.specs.inner.Reading.{Front, front_of, TookPart}
 
 pub no_lf : (n : ℕ) (bytes : List ℕ) → n ≤ length bytes → ((k : ℕ) → k < n → get_or bytes k 0 ≡ 10 → ⊥) → HasNoLf (take n bytes)
 no_lf zero bytes le f = tt
@@ -27,15 +27,15 @@ module _ (items pending : List ℕ) (from to end : ℕ) (is : pending ≡ take (
       sym (take-append-drop end pending)
       ∙ ap (λ (l : List ℕ). take end pending ++ l) (drop_more pending end 0 lt ∙ ap (λ b. b ∷ drop (end + 1) pending) lf ∙ ap (λ (l : List ℕ). 10 ∷ l) rest)
 
-  pub found_part : (line_old line_new : Line) → end ≤ length pending → ((end ≡ length pending) → ⊥) → ((k : ℕ) → k < end → get_or pending k 0 ≡ 10 → ⊥) → (end < length pending → get_or pending end 0 ≡ 10)
-      → ((bytes : List ℕ) → line_old ≡ line_of bytes → line_new ≡ line_of (bytes ++ take end pending))
+  pub found_part : (line_old line_new : Front) → end ≤ length pending → ((end ≡ length pending) → ⊥) → ((k : ℕ) → k < end → get_or pending k 0 ≡ 10 → ⊥) → (end < length pending → get_or pending end 0 ≡ 10)
+      → ((bytes : List ℕ) → line_old ≡ front_of bytes → line_new ≡ front_of (bytes ++ take end pending))
       → TookPart (take (to - from) (drop from items)) (take (to - (from + (end + 1))) (drop (from + (end + 1)) items)) line_old line_new true
   found_part line_old line_new within inner before lf grows =
       let lt : end < length pending = omega (arith, inner) in
       record { part = take end pending; no_lf = no_lf end pending within before; grows = grows; split = sym is ∙ split_at_lf lt (lf lt); rest = λ e. absurd (cc e) }
 
-  pub whole_part : (line_old line_new : Line) → end ≡ length pending → ((k : ℕ) → k < end → get_or pending k 0 ≡ 10 → ⊥)
-      → ((bytes : List ℕ) → line_old ≡ line_of bytes → line_new ≡ line_of (bytes ++ take end pending))
+  pub whole_part : (line_old line_new : Front) → end ≡ length pending → ((k : ℕ) → k < end → get_or pending k 0 ≡ 10 → ⊥)
+      → ((bytes : List ℕ) → line_old ≡ front_of bytes → line_new ≡ front_of (bytes ++ take end pending))
       → TookPart (take (to - from) (drop from items)) (take (to - to) (drop to items)) line_old line_new false
   whole_part line_old line_new whole before grows =
       let all = take_all end pending (omega (arith, whole)) in

@@ -1,148 +1,244 @@
--- Where a session stands before a line, and what the bytes taken then settle.
-use Rattle.std.proofs.Common.{◌≡◌, ℕ, suc, ◌+◌, Bool, true, false, not, List, [], ◌∷◌, ◌++◌, length, take, refl, sym, ◌∙◌, ap, subst, arith, append_assoc, length-append}
-use Rattle.std.specs.Prelude.{map}
+-- How a session goes on, and what the bytes taken settle.
+use Rattle.std.proofs.Common.{◌≡◌, ℕ, suc, ◌+◌, ◌-◌, ◌<◌, Bool, true, false, List, [], ◌∷◌, ◌++◌, length, take, refl, sym, ◌∙◌, ap, subst, arith, append_assoc, length-append, nat_lt, if◌then◌else◌}
 use Rattle.std.specs.List.{concat}
 use Rattle.std.proofs.lemmas.List.{append-nil, map-append}
-use Rattle.std.proofs.lemmas.List.Elements.{filter-append}
 use Rattle.std.proofs.lemmas.List.Folds.{concat-append}
+use Rattle.std.proofs.lemmas.Bool.{lt-ltb, le-ltb}
 use Rattle.std.proofs.Math.Seq.{take-append-add}
 use Rattle.abc_outside.specs.Outside.{Outside}
-use Rattle.abc_session.specs.Lines.{Line, line_of, cut_at_lf, lines_by, is_blank, items_of}
-use Rattle.abc_session.specs.inner.Reading.{pending_of, UsesLine, WantsMore, AsksMore}
-use Rattle.abc_session.specs.Session.{Work, outcome, after, replies}
+use Rattle.abc_journal.specs.declared.layout.Bounds.{Bounds}
+use Rattle.abc_turns.specs.Session.{over, waiting, Turn, Session, ends, after_turns, replies_of, replies, output, work_after, works, last_work}
+use Rattle.abc_turns.specs.Steady.{IsUsed}
+use Rattle.abc_turns.specs.Stops.{HasServed}
+use Rattle.abc_turns.proofs.Points.{all_said, last_after}
+use Rattle.abc_turns.proofs.Endings.{between_later}
+use Rattle.abc_turns.proofs.Using.{none_used, used_then, used_served, works_all, settled as settled_by}
+use Rattle.abc_session.specs.Lines.{is_blank}
+use Rattle.abc_session.specs.Session.{Work, outcome, next_item, item_came, session_from, session_of, front_session}
 use Rattle.abc_session.specs.Serving.{OpensTo}
-use Rattle.abc_session.specs.Settled.{whole_items, settled, AsksSettled, IsWaiting, IsBeforeLine}
+use Rattle.abc_session.specs.Settled.{settled, AsksSettled, IsWaiting}
 use Rattle.abc_session.specs.Asking.{Asked}
+use Rattle.abc_session.specs.Run.{HasEnded}
+use Rattle.abc_session.specs.inner.Reading.{pending_of, UsesLines, WantsMore, AsksMore}
+use Rattle.abc_session.specs.inner.Place.{Place, start_place, place_at, ends_at, lines_at, session_at, WentOn}
 use Rattle.abc_session.specs.declared.reader.Reader.{Reader}
 use Rattle.abc_session.proofs.Asks.{asked_weaker, asked_then}
-use Rattle.abc_session.proofs.Cutting.{first_is}
-use Rattle.abc_session.proofs.Turns.{blank_first, item_first}
+use Rattle.abc_session.proofs.Broken.{told_served, idle_between}
+use Rattle.abc_session.proofs.Items.{steady, no_session, blank_line, item_line}
+use Rattle.abc_num.specs.Lines.{raw_lines}
+use Rattle.abc_num.specs.declared.lines.RawLine.{RawLine}
 
--- with one item more
-after-append : (bound first : ℕ) (work : Work) (items : List Line) (line : Line) → after bound first work (items ++ line ∷ []) ≡ (outcome bound (first + length items) (after bound first work items) line).work
-after-append bound first work [] line = let e : first ≡ first + 0 = omega arith in ap (λ n. (outcome bound n work line).work) e
-after-append bound first work (item ∷ items) line =
-    let e : suc first + length items ≡ first + suc (length items) = omega arith in
-    after-append bound (suc first) (outcome bound first work item).work items line
-    ∙ ap (λ n. (outcome bound n (after bound (suc first) (outcome bound first work item).work items) line).work) e
+-- the session from the start on is that of the whole input
+pub start_session : (bounds : Bounds) (work : Work) (old : Outside) → session_at bounds (start_place work bounds.input old) ≡ session_of bounds work old.left
+start_session bounds work old =
+    let none : 0 + length old.left ≡ length old.left = omega arith in
+    let all : bounds.input - 0 ≡ bounds.input = omega arith in
+    ap (λ n. session_from bounds (nat_lt n bounds.input) 1 work (raw_lines (nat_lt n bounds.input) (take (bounds.input - 0) old.left))) none
+    ∙ ap (λ n. session_from bounds (nat_lt (length old.left) bounds.input) 1 work (raw_lines (nat_lt (length old.left) bounds.input) (take n old.left))) all
 
-replies-append : (bound first : ℕ) (work : Work) (items : List Line) (line : Line)
-    → replies bound first work (items ++ line ∷ []) ≡ replies bound first work items ++ (outcome bound (first + length items) (after bound first work items) line).reply ∷ []
-replies-append bound first work [] line = let e : first ≡ first + 0 = omega arith in ap (λ n. (outcome bound n work line).reply ∷ []) e
-replies-append bound first work (item ∷ items) line =
-    let e : suc first + length items ≡ first + suc (length items) = omega arith in
-    ap (λ (rs : List (List ℕ)). (outcome bound first work item).reply ∷ rs)
-    (replies-append bound (suc first) (outcome bound first work item).work items line
-    ∙ ap (λ n. replies bound (suc first) (outcome bound first work item).work items ++ (outcome bound n (after bound (suc first) (outcome bound first work item).work items) line).reply ∷ []) e)
+-- no line was used yet
+pub uses_none : (pending left : List ℕ) (taken : ℕ) → UsesLines pending left taken pending left taken []
+uses_none pending left taken = record { bytes = []; cut = λ ends more. refl; split = refl; count = omega arith }
 
-module _ (bound : ℕ) (start : Work) (input said : List ℕ) (tells_said : Type 0) (served : ℕ) (work : Work) (reader : Reader) (now : Outside)
-    (place : IsBeforeLine bound start input said tells_said served work reader now) where
+-- lines, and then further ones
+pub uses_then : (pending left : List ℕ) (taken : ℕ) (pending_mid left_mid : List ℕ) (taken_mid : ℕ) (pending_new left_new : List ℕ) (taken_new : ℕ) (lines more : List RawLine)
+    → UsesLines pending left taken pending_mid left_mid taken_mid lines → UsesLines pending_mid left_mid taken_mid pending_new left_new taken_new more
+    → UsesLines pending left taken pending_new left_new taken_new (lines ++ more)
+uses_then pending left taken pending_mid left_mid taken_mid pending_new left_new taken_new lines more p q = record {
+  bytes = p.bytes ++ q.bytes;
+  cut = λ ends rest. ap (raw_lines ends) (append_assoc p.bytes q.bytes rest) ∙ p.cut ends (q.bytes ++ rest) ∙ ap (λ ls. lines ++ ls) (q.cut ends rest) ∙ sym (append_assoc lines more (raw_lines ends rest));
+  split = p.split ∙ ap (λ (l : List ℕ). p.bytes ++ l) q.split ∙ sym (append_assoc p.bytes q.bytes (pending_new ++ left_new));
+  count = omega (arith, p.count, q.count, length-append p.bytes q.bytes);
+}
+
+module _ (bounds : Bounds) (tells_said : Type 0) where
+  pub went_none : (place : Place) → WentOn bounds tells_said place place
+  went_none place = record {
+    lines = [];
+    turns = [];
+    used = none_used next_item (item_came bounds) (suc place.served) place.work;
+    number = omega arith;
+    said_is = λ told. sym (append-nil place.said);
+    split = refl;
+    ends = refl;
+    bytes = λ going. uses_none place.pending place.left place.taken;
+  }
+
+  -- a session that begins with a reader that has taken nothing
+  pub begins : (work : Work) (most : ℕ) (old : Outside) (reader : Reader) → pending_of reader ≡ [] → reader.taken ≡ 0 → reader.bound ≡ most → reader.ended ≡ false
+      → WentOn bounds tells_said (start_place work most old) (place_at 0 work reader old)
+  begins work most old reader none fresh within going =
+      let same : start_place work most old ≡ place_at 0 work reader old =
+      λ i. record { served = 0; work = work; said = old.said; pending = sym none i; left = old.left; taken = sym fresh i; bound = sym within i; ended = sym going i } in
+      subst (λ place. WentOn bounds tells_said (start_place work most old) place) same (went_none (start_place work most old))
+
+  pub went_then : (old mid new : Place) → WentOn bounds tells_said old mid → WentOn bounds tells_said mid new → (new.ended ≡ false → mid.ended ≡ false) → WentOn bounds tells_said old new
+  went_then old mid new p q going =
+      let n : suc mid.served ≡ suc old.served + length p.turns = omega (arith, p.number) in
+      record {
+        lines = p.lines ++ q.lines;
+        turns = p.turns ++ q.turns;
+        used = used_then next_item (item_came bounds) (suc old.served) old.work mid.work new.work p.lines q.lines p.turns q.turns p.used
+            (subst (λ k. IsUsed next_item (item_came bounds) k mid.work q.lines q.turns new.work) n q.used);
+        number = omega (arith, p.number, q.number, length-append p.turns q.turns);
+        said_is = λ told. q.said_is told ∙ ap (λ (l : List ℕ). l ++ concat (replies_of q.turns)) (p.said_is told) ∙ append_assoc old.said (concat (replies_of p.turns)) (concat (replies_of q.turns))
+            ∙ ap (λ (l : List ℕ). old.said ++ l) (sym (concat-append (replies_of p.turns) (replies_of q.turns)) ∙ ap concat (sym (map-append (λ (t : Turn Work). t.reply) p.turns q.turns)));
+        split = p.split ∙ ap (λ ls. p.lines ++ ls) q.split ∙ sym (append_assoc p.lines q.lines (lines_at new));
+        ends = q.ends ∙ p.ends;
+        bytes = λ at_last. uses_then old.pending old.left old.taken mid.pending mid.left mid.taken new.pending new.left new.taken p.lines q.lines (p.bytes (going at_last)) (q.bytes at_last);
+      }
+
+  module _ (old new : Place) (went : WentOn bounds tells_said old new) where
+    -- the items between were served, and the rest is left
+    pub went_served : HasServed (works old.work (session_at bounds old)) (replies (session_at bounds old)) (works new.work (session_at bounds new)) (replies (session_at bounds new)) tells_said old.said new.said
+    went_served =
+        let n : suc old.served + length went.turns ≡ suc new.served = omega (arith, went.number) in
+        let whole : session_from bounds (ends_at new) (suc old.served) old.work (went.lines ++ lines_at new) ≡ session_at bounds old =
+        ap (λ ls. session_from bounds (ends_at new) (suc old.served) old.work ls) (sym went.split) ∙ ap (λ e. session_from bounds e (suc old.served) old.work (lines_at old)) went.ends in
+        let rest : session_from bounds (ends_at new) (suc old.served + length went.turns) new.work (lines_at new) ≡ session_at bounds new = ap (λ k. session_from bounds (ends_at new) k new.work (lines_at new)) n in
+        subst (λ s. HasServed (works old.work s) (replies s) (works new.work (session_at bounds new)) (replies (session_at bounds new)) tells_said old.said new.said) whole
+        (subst (λ s. HasServed (works old.work (session_from bounds (ends_at new) (suc old.served) old.work (went.lines ++ lines_at new))) (replies (session_from bounds (ends_at new) (suc old.served) old.work (went.lines ++ lines_at new)))
+        (works new.work s) (replies s) tells_said old.said new.said) rest
+        (used_served next_item (item_came bounds) (suc old.served) old.work new.work went.lines went.turns went.used (ends_at new) (lines_at new) tells_said old.said new.said went.said_is))
+
+    pub none_left : lines_at new ≡ [] → replies (session_at bounds new) ≡ []
+    none_left none =
+        ap (λ ls. replies (session_from bounds (ends_at new) (suc new.served) new.work ls)) none ∙ ap replies (no_session bounds (ends_at new) (suc new.served) new.work)
+
+    -- a session without further lines is over, or it waits
+    pub ending_is : lines_at new ≡ [] → (e : Bool) → ends_at new ≡ e → (session_at bounds old).ending ≡ (ends {W = Work} (if e then over else waiting)).ending
+    ending_is none e is =
+        let n : suc old.served + length went.turns ≡ suc new.served = omega (arith, went.number) in
+        ap (λ b. (session_from bounds b (suc old.served) old.work (lines_at old)).ending) (sym went.ends ∙ is)
+        ∙ ap (λ ls. (session_from bounds e (suc old.served) old.work ls).ending) (went.split ∙ ap (λ ls. went.lines ++ ls) none) ∙ ap (λ (s : Session Work). s.ending) (went.used.goes e [])
+        ∙ ap (λ (s : Session Work). s.ending) (no_session bounds e (suc old.served + length went.turns) new.work)
+
+-- a session that reads on from a place has served one line more: a blank one, or an item
+module _ (bounds : Bounds) (tells_said : Type 0) (old new : Place) (line : RawLine) (split : lines_at old ≡ line ∷ lines_at new) (ends : ends_at new ≡ ends_at old)
+    (bytes : new.ended ≡ false → UsesLines old.pending old.left old.taken new.pending new.left new.taken (line ∷ [])) where
+  pub past_blank : is_blank line ≡ true → new.served ≡ old.served → new.work ≡ old.work → new.said ≡ old.said → WentOn bounds tells_said old new
+  past_blank blank number same said = record {
+    lines = line ∷ [];
+    turns = [];
+    used = subst (λ w. IsUsed next_item (item_came bounds) (suc old.served) old.work (line ∷ []) [] w) (sym same) (blank_line bounds (suc old.served) old.work line blank);
+    number = omega (arith, number);
+    said_is = λ told. said ∙ sym (append-nil old.said);
+    split = split;
+    ends = ends;
+    bytes = bytes;
+  }
+
+  pub past_item : is_blank line ≡ false → new.served ≡ suc old.served → new.work ≡ (outcome bounds (suc old.served) old.work line).work → (tells_said → new.said ≡ old.said ++ (outcome bounds (suc old.served) old.work line).reply)
+      → WentOn bounds tells_said old new
+  past_item some number kept said = record {
+    lines = line ∷ [];
+    turns = record { reply = (outcome bounds (suc old.served) old.work line).reply; work = (outcome bounds (suc old.served) old.work line).work } ∷ [];
+    used = subst (λ w. IsUsed next_item (item_came bounds) (suc old.served) old.work (line ∷ []) (record { reply = (outcome bounds (suc old.served) old.work line).reply; work = (outcome bounds (suc old.served) old.work line).work } ∷ []) w) (sym kept)
+        (item_line bounds (suc old.served) old.work line some);
+    number = omega (arith, number);
+    said_is = λ told. said told ∙ ap (λ (l : List ℕ). old.said ++ l) (sym (append-nil (outcome bounds (suc old.served) old.work line).reply));
+    split = split;
+    ends = ends;
+    bytes = bytes;
+  }
+
+-- a line is found to be missing
+pub past_end : (bounds : Bounds) (tells_said : Type 0) (old new : Place) → lines_at old ≡ [] → lines_at new ≡ [] → ends_at new ≡ ends_at old → new.ended ≡ true → new.served ≡ old.served → new.work ≡ old.work → new.said ≡ old.said → WentOn bounds tells_said old new
+past_end bounds tells_said old new none none_new ends ended number same said = record {
+  lines = [];
+  turns = [];
+  used = subst (λ w. IsUsed next_item (item_came bounds) (suc old.served) old.work [] [] w) (sym same) (none_used next_item (item_came bounds) (suc old.served) old.work);
+  number = omega (arith, number);
+  said_is = λ told. said ∙ sym (append-nil old.said);
+  split = none ∙ sym none_new;
+  ends = ends;
+  bytes = λ going. absurd (cc (ended, going));
+}
+
+-- the items up to a place were served, and those from there on are left
+pub went_on : (bounds : Bounds) (start : Work) (first : Outside) (tells_said : Type 0) (place : Place) → WentOn bounds tells_said (start_place start bounds.input first) place
+    → HasServed (works start (session_of bounds start first.left)) (replies (session_of bounds start first.left)) (works place.work (session_at bounds place)) (replies (session_at bounds place)) tells_said first.said place.said
+went_on bounds start first tells_said place went =
+    subst (λ s. HasServed (works start s) (replies s) (works place.work (session_at bounds place)) (replies (session_at bounds place)) tells_said first.said place.said) (start_session bounds start first)
+    (went_served bounds tells_said (start_place start bounds.input first) place went)
+
+-- Reads and waits, of a session that went on from its start to a place where the input has not ended.
+module _ (bounds : Bounds) (start : Work) (first : Outside) (tells_said : Type 0) (place : Place) (went : WentOn bounds tells_said (start_place start bounds.input first) place) (going : place.ended ≡ false) where
   -- the bytes that were taken then, where no whole line is in hand
-  taken_then : (n : ℕ) → WantsMore (pending_of reader) now.left reader.taken n → whole_items (take n input) ≡ whole_items place.used
-  taken_then n wants =
+  settled_then : (n : ℕ) → WantsMore place.pending place.left place.taken n → front_session bounds start (take n first.left) ≡ after_turns went.turns (ends waiting)
+  settled_then n wants =
       let more = wants.0 in
-      let pending = pending_of reader in
-      let e : n ≡ length place.used + (length pending + more) = omega (arith, wants.1, place.count) in
-      let front : take n input ≡ place.used ++ (pending ++ take more now.left) =
-      ap (λ k. take k input) e ∙ ap (λ (l : List ℕ). take (length place.used + (length pending + more)) l) place.split
-      ∙ take-append-add place.used (pending ++ now.left) (length pending + more) ∙ ap (λ (l : List ℕ). place.used ++ l) (take-append-add pending now.left more) in
-      let cut : cut_at_lf false (take n input) ≡ cut_at_lf false place.used =
-      ap (λ (l : List ℕ). cut_at_lf false l) front ∙ place.cut (pending ++ take more now.left) ∙ ap (λ (ls : List (List ℕ)). cut_at_lf false place.used ++ ls) wants.3 ∙ append-nil (cut_at_lf false place.used) in
-      ap (λ (ls : List (List ℕ)). items_of (map line_of ls)) cut
+      let uses = went.bytes going in
+      let e : n ≡ length uses.bytes + (length place.pending + more) = omega (arith, wants.1, uses.count) in
+      let front : take n first.left ≡ uses.bytes ++ (place.pending ++ take more place.left) =
+      ap (λ k. take k first.left) e ∙ ap (λ (l : List ℕ). take (length uses.bytes + (length place.pending + more)) l) uses.split
+      ∙ take-append-add uses.bytes (place.pending ++ place.left) (length place.pending + more) ∙ ap (λ (l : List ℕ). uses.bytes ++ l) (take-append-add place.pending place.left more) in
+      ap (λ (l : List ℕ). session_from bounds false 1 start (raw_lines false l)) front
+      ∙ ap (λ ls. session_from bounds false 1 start ls) (uses.cut false (place.pending ++ take more place.left) ∙ ap (λ ls. went.lines ++ ls) wants.3 ∙ append-nil went.lines)
+      ∙ settled_by next_item (item_came bounds) 1 start place.work went.lines went.turns went.used (steady bounds)
 
-  pub settled_then : (n : ℕ) → WantsMore (pending_of reader) now.left reader.taken n → settled bound start (take n input) ≡ settled bound start place.used
-  settled_then n wants = ap (λ (ls : List Line). concat (replies bound 1 start ls)) (taken_then n wants)
-
-  pub work_then : (n : ℕ) → WantsMore (pending_of reader) now.left reader.taken n → work ≡ after bound 1 start (whole_items (take n input))
-  work_then n wants = place.work_is ∙ ap (λ (ls : List Line). after bound 1 start ls) (sym (taken_then n wants))
+  settles : (n : ℕ) → WantsMore place.pending place.left place.taken n → settled bounds start (take n first.left) ≡ concat (replies_of went.turns)
+  settles n wants = ap output (settled_then n wants) ∙ ap (λ ts. concat (replies_of ts)) (append-nil went.turns)
 
   -- each read is one at which all was said that is settled
-  pub asks_settled : (a b : List (ℕ × ℕ)) → tells_said → Asked (AsksMore (pending_of reader) now.left reader.taken (length now.said)) a b → Asked (AsksSettled bound start input (length said)) a b
+  pub asks_settled : (a b : List (ℕ × ℕ)) → tells_said → Asked (AsksMore place.pending place.left place.taken (length place.said)) a b → Asked (AsksSettled bounds start first.left (length first.said)) a b
   asks_settled a b told asked =
-      asked_weaker (AsksMore (pending_of reader) now.left reader.taken (length now.said)) (AsksSettled bound start input (length said)) a b
-      (λ x ask. ask.1 ∙ ap length (place.said_is told) ∙ length-append said (settled bound start place.used) ∙ ap (λ (l : List ℕ). length said + length l) (sym (settled_then x.0 ask.0))) asked
+      asked_weaker (AsksMore place.pending place.left place.taken (length place.said)) (AsksSettled bounds start first.left (length first.said)) a b
+      (λ x ask. ask.1 ∙ ap length (went.said_is told) ∙ length-append first.said (concat (replies_of went.turns)) ∙ ap (λ (l : List ℕ). length first.said + length l) (sym (settles x.0 ask.0))) asked
 
-  module _ (reader_new : Reader) (new : Outside) (line : Line) (uses : UsesLine (pending_of reader) now.left reader.taken (pending_of reader_new) new.left reader_new.taken line) where
-    abbrev used_now : List ℕ
-    used_now = place.used ++ (uses.bytes ++ 10 ∷ [])
-
-    line_cut : (more : List ℕ) → cut_at_lf false (used_now ++ more) ≡ cut_at_lf false place.used ++ (uses.bytes ∷ cut_at_lf false more)
-    line_cut more =
-        ap (λ (l : List ℕ). cut_at_lf false l) (append_assoc place.used (uses.bytes ++ 10 ∷ []) more ∙ ap (λ (l : List ℕ). place.used ++ l) (append_assoc uses.bytes (10 ∷ []) more))
-        ∙ place.cut (uses.bytes ++ 10 ∷ more) ∙ ap (λ (ls : List (List ℕ)). cut_at_lf false place.used ++ ls) (first_is false uses.bytes more uses.no_lf)
-
-    one_cut : cut_at_lf false used_now ≡ cut_at_lf false place.used ++ uses.bytes ∷ []
-    one_cut = ap (λ (l : List ℕ). cut_at_lf false l) (sym (append-nil used_now)) ∙ line_cut []
-
-    more_cut : (more : List ℕ) → cut_at_lf false (used_now ++ more) ≡ cut_at_lf false used_now ++ cut_at_lf false more
-    more_cut more =
-        line_cut more ∙ sym (append_assoc (cut_at_lf false place.used) (uses.bytes ∷ []) (cut_at_lf false more)) ∙ ap (λ (ls : List (List ℕ)). ls ++ cut_at_lf false more) (sym one_cut)
-
-    items_now : whole_items used_now ≡ whole_items place.used ++ items_of (line ∷ [])
-    items_now =
-        ap (λ (ls : List (List ℕ)). items_of (map line_of ls)) one_cut ∙ ap items_of (map-append line_of (cut_at_lf false place.used) (uses.bytes ∷ []))
-        ∙ filter-append (λ l. not (is_blank l)) (lines_by false place.used) (line_of uses.bytes ∷ []) ∙ ap (λ (l : Line). whole_items place.used ++ items_of (l ∷ [])) (sym uses.line_is)
-
-    split_now : input ≡ used_now ++ (pending_of reader_new ++ new.left)
-    split_now =
-        place.split ∙ ap (λ (l : List ℕ). place.used ++ l) (uses.split ∙ sym (append_assoc uses.bytes (10 ∷ []) (pending_of reader_new ++ new.left)))
-        ∙ sym (append_assoc place.used (uses.bytes ++ 10 ∷ []) (pending_of reader_new ++ new.left))
-
-    count_now : reader_new.taken ≡ length used_now + length (pending_of reader_new)
-    count_now = omega (arith, place.count, uses.count, length-append place.used (uses.bytes ++ 10 ∷ []), length-append uses.bytes (10 ∷ []))
-
-    -- behind a blank line
-    pub past_blank : is_blank line ≡ true → new.said ≡ now.said → IsBeforeLine bound start input said tells_said served work reader_new new
-    past_blank blank same =
-        let items : whole_items used_now ≡ whole_items place.used = items_now ∙ ap (λ (ls : List Line). whole_items place.used ++ ls) (blank_first line [] blank) ∙ append-nil (whole_items place.used) in
-        record {
-          used = used_now;
-          split = split_now;
-          count = count_now;
-          cut = more_cut;
-          number = place.number ∙ ap length (sym items);
-          work_is = place.work_is ∙ ap (λ (ls : List Line). after bound 1 start ls) (sym items);
-          said_is = λ told. same ∙ place.said_is told ∙ ap (λ (ls : List Line). said ++ concat (replies bound 1 start ls)) (sym items);
-        }
-
-    -- behind an item
-    pub past_item : (work_new : Work) → is_blank line ≡ false → work_new ≡ (outcome bound (suc served) work line).work → (tells_said → new.said ≡ now.said ++ (outcome bound (suc served) work line).reply)
-        → IsBeforeLine bound start input said tells_said (suc served) work_new reader_new new
-    past_item work_new some same says =
-        let items : whole_items used_now ≡ whole_items place.used ++ line ∷ [] = items_now ∙ ap (λ (ls : List Line). whole_items place.used ++ ls) (item_first line [] some) in
-        let e : 1 + length (whole_items place.used) ≡ suc served = omega (arith, place.number) in
-        let reply = (outcome bound (suc served) work line).reply in
-        let reply_is : (outcome bound (1 + length (whole_items place.used)) (after bound 1 start (whole_items place.used)) line).reply ≡ reply =
-        ap (λ n. (outcome bound n (after bound 1 start (whole_items place.used)) line).reply) e ∙ ap (λ w. (outcome bound (suc served) w line).reply) (sym place.work_is) in
-        let replies_now : concat (replies bound 1 start (whole_items used_now)) ≡ settled bound start place.used ++ reply =
-        ap (λ (ls : List Line). concat (replies bound 1 start ls)) items ∙ ap concat (replies-append bound 1 start (whole_items place.used) line)
-        ∙ concat-append (replies bound 1 start (whole_items place.used)) _ ∙ ap (λ (l : List ℕ). settled bound start place.used ++ l) (append-nil _ ∙ reply_is) in
-        record {
-          used = used_now;
-          split = split_now;
-          count = count_now;
-          cut = more_cut;
-          number = omega (arith, place.number, ap length items, length-append (whole_items place.used) (line ∷ []));
-          work_is = same ∙ ap (λ w. (outcome bound (suc served) w line).work) place.work_is ∙ ap (λ n. (outcome bound n (after bound 1 start (whole_items place.used)) line).work) (sym e)
-              ∙ sym (after-append bound 1 start (whole_items place.used) line) ∙ ap (λ (ls : List Line). after bound 1 start ls) (sym items);
-          said_is = λ told. says told ∙ ap (λ (l : List ℕ). l ++ reply) (place.said_is told) ∙ append_assoc said (settled bound start place.used) reply ∙ ap (λ (l : List ℕ). said ++ l) (sym replies_now);
-        }
+  -- a session that stops for want of input
+  pub waits : (new : Outside) (stops : List ℕ → List ℕ → Type 0) → tells_said → WantsMore place.pending place.left place.taken new.taken → new.said ≡ place.said → ((c s : List ℕ) → stops c s → OpensTo c place.work)
+      → IsWaiting bounds start first.left first.said new stops
+  waits new stops told wants same opens =
+      record {
+        between = between_later OpensTo (works start (session_of bounds start first.left)) (replies (session_of bounds start first.left))
+            (works place.work (session_at bounds place)) (replies (session_at bounds place)) first.said place.said new.said stops
+            (told_served _ _ _ _ tells_said first.said place.said told (went_on bounds start first tells_said place went))
+            (idle_between place.work (session_at bounds place) place.said new.said stops same opens);
+        settled_is = same ∙ went.said_is told ∙ ap (λ (l : List ℕ). first.said ++ l) (sym (settles new.taken wants));
+        image = λ c s stop. subst (λ w. OpensTo c w)
+            (went.used.work_is ∙ sym (ap (work_after start) (append-nil went.turns)) ∙ ap (last_work start) (sym (settled_then new.taken wants))) (opens c s stop);
+      }
 
 -- Each read of one turn more is one at which all was said that is settled. After the end of the input there is none.
-pub turn_asks : (bound : ℕ) (start : Work) (input said : List ℕ) (tells_said : Type 0) (served : ℕ) (work : Work) (reader : Reader) (now : Outside) (a b c : List (ℕ × ℕ)) → tells_said
-    → (reader.ended ≡ false → IsBeforeLine bound start input said tells_said served work reader now) → (reader.ended ≡ true → c ≡ b)
-    → Asked (AsksMore (pending_of reader) now.left reader.taken (length now.said)) b c → Asked (AsksSettled bound start input (length said)) a b → Asked (AsksSettled bound start input (length said)) a c
-turn_asks bound start input said tells_said served work reader now a b c told before ended asks so_far = by_end reader.ended refl
+pub turn_asks : (bounds : Bounds) (start : Work) (first : Outside) (tells_said : Type 0) (place : Place) (a b c : List (ℕ × ℕ)) → tells_said
+    → WentOn bounds tells_said (start_place start bounds.input first) place → (place.ended ≡ true → c ≡ b)
+    → Asked (AsksMore place.pending place.left place.taken (length place.said)) b c → Asked (AsksSettled bounds start first.left (length first.said)) a b → Asked (AsksSettled bounds start first.left (length first.said)) a c
+turn_asks bounds start first tells_said place a b c told went ended asks so_far = by_end place.ended refl
   where
-    by_end : (e : Bool) → reader.ended ≡ e → Asked (AsksSettled bound start input (length said)) a c
-    by_end true is = subst (λ (l : List (ℕ × ℕ)). Asked (AsksSettled bound start input (length said)) a l) (sym (ended is)) so_far
-    by_end false is = asked_then (AsksSettled bound start input (length said)) a b c so_far (asks_settled bound start input said tells_said served work reader now (before is) b c told asks)
+    by_end : (e : Bool) → place.ended ≡ e → Asked (AsksSettled bounds start first.left (length first.said)) a c
+    by_end true is = subst (λ (l : List (ℕ × ℕ)). Asked (AsksSettled bounds start first.left (length first.said)) a l) (sym (ended is)) so_far
+    by_end false is = asked_then (AsksSettled bounds start first.left (length first.said)) a b c so_far (asks_settled bounds start first tells_said place went is b c told asks)
 
--- a session that stops for want of input
-pub waits : (bound : ℕ) (start : Work) (input said : List ℕ) (tells_said : Type 0) (served : ℕ) (work : Work) (reader : Reader) (now new : Outside) (stops : List ℕ → List ℕ → Type 0) → tells_said
-    → IsBeforeLine bound start input said tells_said served work reader now → WantsMore (pending_of reader) now.left reader.taken new.taken → new.said ≡ now.said → ((c s : List ℕ) → stops c s → OpensTo c work)
-    → IsWaiting bound start input said new stops
-waits bound start input said tells_said served work reader now new stops told place wants same opens = record {
-  said_is = same ∙ place.said_is told ∙ ap (λ (l : List ℕ). said ++ l) (sym (settled_then bound start input said tells_said served work reader now place new.taken wants));
-  image = λ c s stop. subst (λ w. OpensTo c w) (work_then bound start input said tells_said served work reader now place new.taken wants) (opens c s stop);
-}
+-- What a session has done that went on from its start to a place without further lines.
+module _ (bounds : Bounds) (start : Work) (first : Outside) (tells_said : Type 0) (place : Place) (went : WentOn bounds tells_said (start_place start bounds.input first) place) where
+  abbrev whole : Session Work
+  whole = session_of bounds start first.left
+
+  served_all : lines_at place ≡ [] → HasServed (works start whole) (replies whole) (works place.work (session_at bounds place)) [] tells_said first.said place.said
+  served_all none =
+      subst (λ rs. HasServed (works start whole) (replies whole) (works place.work (session_at bounds place)) rs tells_said first.said place.said)
+      (none_left bounds tells_said (start_place start bounds.input first) place went none) (went_on bounds start first tells_said place went)
+
+  pub said_all : lines_at place ≡ [] → tells_said → place.said ≡ first.said ++ output whole
+  said_all none told = all_said _ _ _ _ _ _ (served_all none) told
+
+  pub kept_all : lines_at place ≡ [] → place.work ≡ last_work start whole
+  kept_all none =
+      last_after _ _ _ _ _ _ (served_all none) ∙ works_all start whole
+
+  -- its input has ended before the bounds
+  pub ended_all : (new : Outside) → lines_at place ≡ [] → new.left ≡ [] → place.left ≡ new.left → place.taken < place.bound → place.bound ≡ bounds.input → place.taken + length place.left ≡ length first.left → HasEnded whole.ending bounds.input first new
+  ended_all new none read same before same_bound total =
+      let long : length place.left ≡ 0 = ap length (same ∙ read) in
+      let e : ends_at place ≡ true = lt-ltb (place.taken + length place.left) place.bound (omega (arith, before, long)) in
+      let over_is : whole.ending ≡ over = ap (λ (s : Session Work). s.ending) (sym (start_session bounds start first)) ∙ ending_is bounds tells_said (start_place start bounds.input first) place went none true e in
+      subst (λ x. HasEnded x bounds.input first new) (sym over_is) (read, omega (arith, before, long, same_bound, total))
+
+  -- its bounds is reached, and no whole line is in hand
+  pub waits_on : (n : ℕ) → WantsMore place.pending place.left place.taken n → n ≡ place.bound → whole.ending ≡ waiting
+  waits_on n wants reached =
+      let e : ends_at place ≡ false = le-ltb (place.taken + length place.left) place.bound (omega (arith, wants.1, wants.2, reached)) in
+      let room : place.bound - place.taken ≡ wants.0 = omega (arith, wants.1, reached) in
+      let none : lines_at place ≡ [] = ap (λ b. raw_lines b (place.pending ++ take (place.bound - place.taken) place.left)) e ∙ ap (λ k. raw_lines false (place.pending ++ take k place.left)) room ∙ wants.3 in
+      ap (λ (s : Session Work). s.ending) (sym (start_session bounds start first)) ∙ ending_is bounds tells_said (start_place start bounds.input first) place went none false e

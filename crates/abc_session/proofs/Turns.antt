@@ -1,83 +1,95 @@
--- The turns of a session.
-use Rattle.std.proofs.Common.{◌≡◌, ℕ, suc, true, false, not, cond, List, [], ◌∷◌, ◌++◌, length, take, refl, sym, ◌∙◌, ap, subst}
+-- The turns of a session, by what a stop leaves of them.
+use Rattle.std.proofs.Common.{◌≡◌, ◌⊎◌, inl, inr, ⊎_elim, ℕ, suc, ◌<◌, ◌≤◌, false, List, [], ◌∷◌, ◌++◌, length, take, sym, ◌∙◌, ap, subst, arith, length-append}
+use Rattle.std.specs.List.{concat}
+use Rattle.std.proofs.lemmas.List.{append-nil, take-append-le}
 use Rattle.abc_outside.specs.Stop.{Leaves, IsQuiet}
-use Rattle.abc_outside.specs.Session.{HasServed}
 use Rattle.abc_outside.proofs.Leaves.{weaken, run_after}
-use Rattle.std.proofs.Math.Seq.{take-length}
-use Rattle.abc_outside.proofs.Points.{point_start, point_item, item_served, none_served, served_then, points_then}
-use Rattle.abc_session.specs.Lines.{Line, is_blank, items_of}
-use Rattle.abc_session.specs.Session.{Work, outcome, after, replies}
-use Rattle.abc_session.specs.Serving.{OpensTo, Holds, works, IsSessionPoint, IsItemStop}
+use Rattle.abc_journal.specs.declared.layout.Bounds.{Bounds}
+use Rattle.abc_turns.specs.Session.{Session, then_turn, replies, works}
+use Rattle.abc_turns.specs.Stops.{HasServed, IsBroken, IsCutShort, in_commit, in_saying}
+use Rattle.abc_turns.proofs.Points.{point_start, point_item, points_then}
+use Rattle.abc_turns.proofs.Endings.{now_leaves}
+use Rattle.abc_session.specs.Lines.{is_blank}
+use Rattle.abc_session.specs.Session.{Work, outcome, session_from}
+use Rattle.abc_session.specs.Serving.{OpensTo, Holds, IsSessionPoint, IsItemStop}
+use Rattle.abc_session.specs.inner.Place.{Place, ends_at, lines_at, session_at}
 use Rattle.abc_session.proofs.Opening.{opens_extended}
+use Rattle.abc_session.proofs.Items.{item_session}
+use Rattle.abc_num.specs.declared.lines.RawLine.{RawLine}
 
-pub blank_first : (line : Line) (lines : List Line) → is_blank line ≡ true → items_of (line ∷ lines) ≡ items_of lines
-blank_first line lines is = ap (λ t. cond (not t) (line ∷ items_of lines) (items_of lines)) is
+-- while a line is read nothing changes
+pub reading_stops : {H : Type 0} (clock : H → ℕ) (stopped : H → ℕ → List ℕ → List ℕ → Type 0) (old new : H) (work : Work) (image said : List ℕ) → Holds image work → IsQuiet clock stopped old image
+    → ((c s : List ℕ) → stopped old (clock old) c s → s ≡ said) → (turns : Session Work) → Leaves clock stopped old new (stopped old (clock old)) → Leaves clock stopped old new (IsSessionPoint work turns said)
+reading_stops clock stopped old new work image said holds quiet says turns leaves =
+    weaken clock stopped old new _ _ leaves
+    (λ c s stop. point_start OpensTo (works work turns) (replies turns) said c s (says c s stop) (opens_extended image c work.layout work.kept holds.layout holds.opens_to (quiet c s stop)))
 
-pub item_first : (line : Line) (lines : List Line) → is_blank line ≡ false → items_of (line ∷ lines) ≡ line ∷ items_of lines
-item_first line lines is = ap (λ t. cond (not t) (line ∷ items_of lines) (items_of lines)) is
+-- one turn more
+pub then_stops : {H : Type 0} (clock : H → ℕ) (stopped : H → ℕ → List ℕ → List ℕ → Type 0) (old mid new : H) (work work_mid : Work) (turns left : Session Work) (tells_said : Type 0) (said said_mid : List ℕ)
+    → HasServed (works work turns) (replies turns) (works work_mid left) (replies left) tells_said said said_mid → tells_said
+    → Leaves clock stopped old mid (IsSessionPoint work turns said) → Leaves clock stopped mid new (IsSessionPoint work_mid left said_mid) → Leaves clock stopped old new (IsSessionPoint work turns said)
+then_stops clock stopped old mid new work work_mid turns left tells_said said said_mid so_far told before turn =
+    points_then clock stopped OpensTo old mid new (works work turns) (replies turns) (works work_mid left) (replies left) tells_said said said_mid so_far told before turn
 
-module _ {H : Type 0} (clock : H → ℕ) (stopped : H → ℕ → List ℕ → List ℕ → Type 0) (old new : H) (bound first : ℕ) (work : Work) (image said : List ℕ)
-    (holds : Holds image work) (quiet : IsQuiet clock stopped old image) (says : (c s : List ℕ) → stopped old (clock old) c s → s ≡ said) where
-  -- while a line is read nothing changes
-  pub reading_stops : (items : List Line) → Leaves clock stopped old new (stopped old (clock old)) → Leaves clock stopped old new (IsSessionPoint bound first work items said)
-  reading_stops items leaves =
-      weaken clock stopped old new _ _ leaves
-      (λ c s stop. point_start OpensTo (works bound first work items) (replies bound first work items) said c s (says c s stop) (opens_extended image c work.layout work.targets holds.layout holds.opens_to (quiet c s stop)))
+-- A line was read that is an item, and it is served.
+module _ {H : Type 0} (clock : H → ℕ) (stopped : H → ℕ → List ℕ → List ℕ → Type 0) (mid new : H) (bounds : Bounds) (k : ℕ) (place : Place) (line : RawLine) (later : List RawLine) (said_mid said_now : List ℕ)
+    (split : lines_at place ≡ line ∷ later) (some : is_blank line ≡ false) (number : k ≡ suc place.served) (same : said_mid ≡ place.said) where
+  abbrev first : ℕ
+  first = suc place.served
 
--- a line is read, and then served
-pub item_stops : {H : Type 0} (clock : H → ℕ) (stopped : H → ℕ → List ℕ → List ℕ → Type 0) (old mid new : H) (bound first k : ℕ) (work : Work) (line : Line) (before later : List Line) (said said_mid : List ℕ)
-    → before ≡ line ∷ later → is_blank line ≡ false → k ≡ first → said_mid ≡ said
-    → Leaves clock stopped old mid (IsSessionPoint bound first work (items_of before) said) → Leaves clock stopped mid new (IsItemStop bound k work line said_mid)
-    → Leaves clock stopped old new (IsSessionPoint bound first work (items_of before) said)
-item_stops clock stopped old mid new bound first k work line before later said said_mid split some number same reading serving =
-    let items : items_of before ≡ line ∷ items_of later = ap items_of split ∙ item_first line later some in
-    run_after clock stopped old mid new _ _ reading serving
-    (λ c s p. subst (λ ls. IsSessionPoint bound first work ls said c s) (sym items)
-    (point_item OpensTo (works bound first work (line ∷ items_of later)) (outcome bound first work line).reply (replies bound (suc first) (outcome bound first work line).work (items_of later)) said c s
-    (subst (λ t. IsItemStop bound first work line t c s) same (subst (λ n. IsItemStop bound n work line said_mid c s) number p))))
+  abbrev reply : List ℕ
+  reply = (outcome bounds first place.work line).reply
 
--- nothing was served
-pub same_goes_on : (bound first : ℕ) (work work_new : Work) (items left : List Line) (tells_said : Type 0) (said said_new : List ℕ) → left ≡ items → work_new ≡ work → said_new ≡ said
-    → HasServed (works bound first work items) (replies bound first work items) (works bound first work_new left) (replies bound first work_new left) tells_said said said_new
-same_goes_on bound first work work_new items left tells_said said said_new same_items same_work same_said =
-    subst (λ s. HasServed (works bound first work items) (replies bound first work items) (works bound first work_new left) (replies bound first work_new left) tells_said said s) (sym same_said)
-    (subst (λ w. HasServed (works bound first work items) (replies bound first work items) (works bound first w left) (replies bound first w left) tells_said said said) (sym same_work)
-    (subst (λ ls. HasServed (works bound first work items) (replies bound first work items) (works bound first work ls) (replies bound first work ls) tells_said said said) (sym same_items)
-    (none_served (works bound first work items) (replies bound first work items) (replies bound first work items) tells_said said refl)))
+  abbrev work_then : Work
+  work_then = (outcome bounds first place.work line).work
 
--- one item was served
-pub item_goes_on : (bound first k : ℕ) (work work_new : Work) (line : Line) (before later : List Line) (tells_said : Type 0) (said said_new : List ℕ)
-    → before ≡ line ∷ later → is_blank line ≡ false → k ≡ suc first → work_new ≡ (outcome bound first work line).work → (tells_said → said_new ≡ said ++ (outcome bound first work line).reply)
-    → HasServed (works bound first work (items_of before)) (replies bound first work (items_of before)) (works bound k work_new (items_of later)) (replies bound k work_new (items_of later)) tells_said said said_new
-item_goes_on bound first k work work_new line before later tells_said said said_new split some number same says =
-    let items : items_of before ≡ line ∷ items_of later = ap items_of split ∙ item_first line later some in
-    subst (λ ls. HasServed (works bound first work ls) (replies bound first work ls) (works bound k work_new (items_of later)) (replies bound k work_new (items_of later)) tells_said said said_new) (sym items)
-    (subst (λ n. HasServed (works bound first work (line ∷ items_of later)) (replies bound first work (line ∷ items_of later)) (works bound n work_new (items_of later)) (replies bound n work_new (items_of later)) tells_said said said_new) (sym number)
-    (subst (λ w. HasServed (works bound first work (line ∷ items_of later)) (replies bound first work (line ∷ items_of later)) (works bound (suc first) w (items_of later)) (replies bound (suc first) w (items_of later)) tells_said said said_new) (sym same)
-    (item_served (works bound first work (line ∷ items_of later)) (outcome bound first work line).reply (replies bound (suc first) (outcome bound first work line).work (items_of later)) tells_said said said_new says)))
+  abbrev rest : Session Work
+  rest = session_from bounds (ends_at place) (suc first) work_then later
 
-length-replies : (bound first : ℕ) (work : Work) (items : List Line) → length (replies bound first work items) ≡ length items
-length-replies bound first work [] = refl
-length-replies bound first work (item ∷ items) = ap (λ n. suc n) (length-replies bound (suc first) (outcome bound first work item).work items)
+  turns : session_at bounds place ≡ then_turn reply work_then rest
+  turns = ap (λ ls. session_from bounds (ends_at place) first place.work ls) split ∙ item_session bounds (ends_at place) first place.work line later some
 
--- the work after all items
-pub works_all : (bound first : ℕ) (work : Work) (items : List Line) → works bound first work items (length (replies bound first work items)) ≡ after bound first work items
-works_all bound first work items =
-    ap (λ n. after bound first work (take n items)) (length-replies bound first work items) ∙ ap (λ ls. after bound first work ls) (take-length items)
+  -- its stops are those of the session
+  pub item_stops : (old : H) → Leaves clock stopped old mid (IsSessionPoint place.work (session_at bounds place) place.said) → Leaves clock stopped mid new (IsItemStop bounds k place.work line said_mid)
+      → Leaves clock stopped old new (IsSessionPoint place.work (session_at bounds place) place.said)
+  item_stops old reading serving =
+      run_after clock stopped old mid new _ _ reading serving
+      (λ c s p. subst (λ t. IsSessionPoint place.work t place.said c s) (sym turns)
+      (point_item OpensTo (works place.work (then_turn reply work_then rest)) reply (replies rest) place.said c s
+      (subst (λ t. IsItemStop bounds first place.work line t c s) same (subst (λ n. IsItemStop bounds n place.work line said_mid c s) number p))))
 
--- one turn more, over the same bound
-pub then_turn : (bound bound_mid first mid last : ℕ) (work work_mid work_last : Work) (items left rest : List Line) (tells_said : Type 0) (said said_mid said_last : List ℕ) → bound_mid ≡ bound
-    → HasServed (works bound first work items) (replies bound first work items) (works bound mid work_mid left) (replies bound mid work_mid left) tells_said said said_mid
-    → HasServed (works bound_mid mid work_mid left) (replies bound_mid mid work_mid left) (works bound_mid last work_last rest) (replies bound_mid last work_last rest) tells_said said_mid said_last
-    → HasServed (works bound first work items) (replies bound first work items) (works bound last work_last rest) (replies bound last work_last rest) tells_said said said_last
-then_turn bound bound_mid first mid last work work_mid work_last items left rest tells_said said said_mid said_last same so_far turn =
-    served_then _ _ _ _ _ _ tells_said said said_mid said_last so_far
-    (subst (λ b. HasServed (works b mid work_mid left) (replies b mid work_mid left) (works b last work_last rest) (replies b last work_last rest) tells_said said_mid said_last) same turn)
+  -- the store failed in it
+  pub item_broken : ((host : H) (earlier late : ℕ) (c s : List ℕ) → earlier ≤ late → stopped host late c s → stopped host earlier c s)
+      → ((c s : List ℕ) → stopped mid (clock mid) c s → OpensTo c place.work) → Leaves clock stopped mid new (IsItemStop bounds k place.work line said_mid) → said_now ≡ said_mid
+      → IsBroken OpensTo (works place.work (session_at bounds place)) (replies (session_at bounds place)) place.said said_now (stopped new (clock new))
+  item_broken since opens leaves unsaid = subst (λ t. IsBroken OpensTo (works place.work t) (replies t) place.said said_now (stopped new (clock new))) (sym turns) (record {
+    k = 0;
+    among = omega arith;
+    said_is = unsaid ∙ same ∙ sym (append-nil place.said);
+    image = λ c s stop. ⊎_elim (λ old. inl (opens c s old)) (λ p. by_stop c s p) (now_leaves clock stopped mid new _ since leaves c s stop);
+  })
+    where
+      done : (c : List ℕ) → OpensTo c (outcome bounds k place.work line).work → OpensTo c work_then
+      done c opens = subst (λ n. OpensTo c (outcome bounds n place.work line).work) number opens
 
-pub then_stops : {H : Type 0} (clock : H → ℕ) (stopped : H → ℕ → List ℕ → List ℕ → Type 0) (old mid new : H) (bound bound_mid first later : ℕ) (work work_mid : Work) (items left : List Line) (said said_mid : List ℕ) {tells_said : Type 0} → bound_mid ≡ bound
-    → HasServed (works bound first work items) (replies bound first work items) (works bound later work_mid left) (replies bound later work_mid left) tells_said said said_mid → tells_said
-    → Leaves clock stopped old mid (IsSessionPoint bound first work items said) → Leaves clock stopped mid new (IsSessionPoint bound_mid later work_mid left said_mid)
-    → Leaves clock stopped old new (IsSessionPoint bound first work items said)
-then_stops clock stopped old mid new bound bound_mid first later work work_mid items left said said_mid {tells_said} same so_far told before turn =
-    points_then clock stopped OpensTo old mid new (works bound first work items) (replies bound first work items) (works bound later work_mid left) (replies bound later work_mid left) tells_said said said_mid so_far told before
-    (subst (λ b. Leaves clock stopped mid new (IsSessionPoint b later work_mid left said_mid)) same turn)
+      by_stop : (c s : List ℕ) → IsItemStop bounds k place.work line said_mid c s → OpensTo c place.work ⊎ OpensTo c work_then
+      by_stop c s (in_commit p) = ⊎_elim (λ old. inl old) (λ more. inr (done c more)) p.image
+      by_stop c s (in_saying p) = inr (done c p.image)
+
+  -- the sink failed in its reply
+  pub item_cut : (n : ℕ) → n < length (outcome bounds k place.work line).reply → said_now ≡ said_mid ++ take n (outcome bounds k place.work line).reply → (work_new : Work) → work_new ≡ (outcome bounds k place.work line).work
+      → ((c s : List ℕ) → stopped new (clock new) c s → OpensTo c work_new)
+      → IsCutShort OpensTo (works place.work (session_at bounds place)) (replies (session_at bounds place)) place.said said_now (stopped new (clock new))
+  item_cut n short front work_new kept opens =
+      let reply_is : (outcome bounds k place.work line).reply ≡ reply = ap (λ m. (outcome bounds m place.work line).reply) number in
+      let less : n < length reply = omega (arith, short, ap length reply_is) in
+      subst (λ t. IsCutShort OpensTo (works place.work t) (replies t) place.said said_now (stopped new (clock new))) (sym turns) (record {
+        k = 0;
+        among = omega arith;
+        count = n;
+        said_is = front ∙ ap (λ (l : List ℕ). l ++ take n (outcome bounds k place.work line).reply) same ∙ ap (λ (l : List ℕ). place.said ++ take n l) reply_is
+            ∙ ap (λ (l : List ℕ). place.said ++ l) (sym (take-append-le n reply (concat (replies rest)) (omega (arith, less))));
+        begun = omega arith;
+        cut = omega (arith, less, length-append reply []);
+        image = λ c s stop. subst (λ m. OpensTo c (outcome bounds m place.work line).work) number (subst (λ w. OpensTo c w) kept (opens c s stop));
+      })

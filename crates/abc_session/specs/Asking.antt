@@ -13,7 +13,7 @@ abbrev pub AsksNow : ℕ → ℕ → ℕ × ℕ → Type 0
 AsksNow taken spoken ask = (ask.0 ≡ taken) × (ask.1 ≡ spoken)
 
 -- Each was asked with more bytes taken than the one before it, so the end of the input, where a read takes nothing, was asked for at most once.
--- The first was asked at the one count or later, all below the other.
+-- Each count is at least `first` and less than `below`.
 abbrev pub Rises : ℕ → ℕ → List (ℕ × ℕ) → Type 0
 Rises first below [] = first ≤ below
 Rises first below (ask ∷ asks) = (first ≤ ask.0) × Rises (suc ask.0) below asks

@@ -2,7 +2,7 @@
 use Rattle.std.specs.Prelude.{ℕ, ℤ, pos, Bool, true, false, not, ◌&&◌, ◌||◌, List, [], ◌∷◌, filter, if◌then◌else◌, ◌==◌, nat_lt, nat_le, codes, bytes_eq, ◌^◌}
 use Rattle.std.specs.List.{list_all, list_any, slice_split}
 use Rattle.abc_num.specs.Literal.{digits_value}
-use Rattle.abc_session.specs.Lines.{Line}
+use Rattle.abc_num.specs.declared.lines.RawLine.{RawLine}
 
 -- what stands as a value: a number, or a target by its name
 pub data Source : Type 0 where
@@ -77,5 +77,5 @@ begins_with_space [] = false
 begins_with_space (byte ∷ bytes) = byte == 32
 
 -- A command stands at the front of its line. A line that is too long is none.
-abbrev pub form_of : Line → Form
-form_of line = if line.long || begins_with_space line.text then other else form_of_words (words line.text)
+abbrev pub form_of : RawLine → Form
+form_of line = if line.long || begins_with_space line.bytes then other else form_of_words (words line.bytes)

@@ -1,37 +1,35 @@
 -- What holds while a session is served.
-use Rattle.std.specs.Prelude.{◌≡◌, ◌≤◌, ℕ, List, take, Ok}
+use Rattle.std.specs.Prelude.{◌≡◌, ◌≤◌, ℕ, List, Ok}
 use Rattle.abc_outside.specs.Outside.{Outside}
-use Rattle.abc_outside.specs.Session.{IsPoint, IsInItem}
+use Rattle.abc_turns.specs.Session.{Session, replies, works}
+use Rattle.abc_turns.specs.Stops.{IsPoint, IsInItem}
+use Rattle.abc_journal.specs.declared.layout.Bounds.{Bounds}
 use Rattle.abc_journal.specs.Journal.{HasLayout}
-use Rattle.abc_session.specs.Lines.{Line}
 use Rattle.abc_session.specs.Workspace.{opens}
-use Rattle.abc_session.specs.Session.{Work, outcome, after, replies}
+use Rattle.abc_session.specs.Session.{Work, outcome}
 use Rattle.abc_session.specs.declared.store.Store.{Store}
+use Rattle.abc_num.specs.declared.lines.RawLine.{RawLine}
 
--- the image opens to the targets of this work
+-- the image opens to the workspace of this work
 abbrev pub OpensTo : List ℕ → Work → Type 0
-OpensTo image work = opens image ≡ Ok work.targets
+OpensTo image work = opens image ≡ Ok work.kept
 
 -- the work of a store
 abbrev pub work_of : Store → Work
-work_of store = record { targets = store.targets; layout = store.journal.layout }
+work_of store = record { kept = record { targets = store.targets }; layout = store.journal.layout }
 
 -- the image holds this work
 pub record Holds (image : List ℕ) (work : Work) : Type 0 where
   pub layout : HasLayout image work.layout
   pub opens_to : OpensTo image work
 
--- the works of a session: after k of these items, the first of which has this number
-abbrev pub works : ℕ → ℕ → Work → List Line → ℕ → Work
-works bound first work items k = after bound first work (take k items)
-
--- a stop of the session over these items
-abbrev pub IsSessionPoint : ℕ → ℕ → Work → List Line → List ℕ → List ℕ → List ℕ → Type 0
-IsSessionPoint bound first work items said c s = IsPoint OpensTo (works bound first work items) (replies bound first work items) said c s
+-- a stop of a session that starts with this work
+abbrev pub IsSessionPoint : Work → Session Work → List ℕ → List ℕ → List ℕ → Type 0
+IsSessionPoint start turns said c s = IsPoint OpensTo (works start turns) (replies turns) said c s
 
 -- a stop while one item is served
-abbrev pub IsItemStop : ℕ → ℕ → Work → Line → List ℕ → List ℕ → List ℕ → Type 0
-IsItemStop bound k work item said c s = IsInItem OpensTo work (outcome bound k work item).work (outcome bound k work item).reply said c s
+abbrev pub IsItemStop : Bounds → ℕ → Work → RawLine → List ℕ → List ℕ → List ℕ → Type 0
+IsItemStop bounds k work item said c s = IsInItem OpensTo work (outcome bounds k work item).work (outcome bounds k work item).reply said c s
 
 -- an item leaves the input alone, and no count falls
 pub record KeepsInput (old new : Outside) : Type 0 where

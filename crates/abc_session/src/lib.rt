@@ -2,8 +2,10 @@
 #![tactic(auto)]
 
 mod command;
+mod laws;
 mod line;
 mod reader;
+mod reader_lines;
 mod record;
 mod reply;
 mod running;
@@ -15,7 +17,7 @@ mod status;
 mod store;
 mod targets;
 
-pub use reply::no_reply_is_empty;
+pub use laws::{a_refusal_changes_nothing, items_are_steady};
 pub use running::{run, run_within};
 pub use status::{
     COMPLETE, INPUT_FAULT, INPUT_TOO_LONG, MEMORY, NOT_A_STORE, SINK_FAULT, STORE_FAULT, USAGE,

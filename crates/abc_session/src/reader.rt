@@ -1,39 +1,21 @@
 //! The reader: the lines of the input, one after the other.
-ghost use Rattle.std.specs.Prelude.{◌≡◌, ◌⊎◌, ◌≤◌, ◌<◌, ◌+◌, ◌-◌, ◌^◌, min, ◌++◌, ◌∷◌, [], List, ℕ, false, true, length, take, IfOk, IfErr, OnOk, OnErr, IsErrOf, MatchOption, IsSome, IsNone, IfSome};
+ghost use Rattle.std.specs.Prelude.{◌≡◌, ◌⊎◌, ◌≤◌, ◌<◌, ◌+◌, ◌-◌, ◌^◌, min, ◌++◌, ◌∷◌, [], List, ℕ, false, true, length, take, IfOk, IfErr, OnOk, OnErr, IsErrOf, MatchOption, IsSome, IsNone, IfSome, IfNone};
+ghost use Rattle.abc_outside.specs.Lines.{IsFirst, IsOver, IsWithinLine};
 ghost use Rattle.abc_outside.specs.Outside.{RoseByOne, KeepsButInput};
 ghost use Rattle.abc_outside.specs.Stop.{Leaves};
+ghost use Rattle.abc_session.specs.Asking.{Asked, AsksNow, AskedRising, next_ask};
 
-use crate::line::Line;
+use crate::line::Gathered;
 use crate::scan::place_of;
+use abc_num::RawLine;
 use abc_num::limits::MOST_LINE_BYTES;
-use abc_outside::{Failed, Host};
+use abc_outside::{Failed, Host, LineStop};
 use std::alloc::{AllocError, Global};
 
 /// The most bytes that one read asks for.
 const PIECE_BYTES: usize = 65_536;
 
 const LF: u8 = 10;
-
-/// Why no line was read.
-#[derive(Clone, Copy, Debug, PartialEq, Eq)]
-pub(crate) enum LineStop {
-    /// A read failed.
-    Input,
-    /// The bound on the input is reached, and a byte more is wanted.
-    Long,
-    Memory,
-}
-
-impl From<AllocError> for LineStop {
-    ghost use Rattle.std.specs.Prelude.{◌≡◌};
-    ghost use Rattle.abc_session.specs.declared.reader.LineStop.TheVariants.{Memory};
-
-    ghost from_gives = { λ _ stop. stop ≡ Memory };
-
-    fn from(_: AllocError) -> Self {
-        LineStop::Memory
-    }
-}
 
 /// The bytes that were taken from the input, those of them that are not yet used, and the bound on them.
 #[derive(Drop)]
@@ -58,8 +40,6 @@ fn make_piece(alloc: Global, size: usize) -> Result<Vec<u8>, AllocError>
 {
     vec![in alloc; 0u8; size]
 }
-
-ghost use Rattle.abc_session.specs.Asking.{Asked, AsksNow, AskedRising, next_ask};
 
 /// Reads once into the piece, at most so many bytes.
 fn read_piece<H: Host>(host: &mut H, piece: &mut [u8], most: u64) -> Result<usize, LineStop>
@@ -90,7 +70,8 @@ fn read_piece<H: Host>(host: &mut H, piece: &mut [u8], most: u64) -> Result<usiz
 }
 
 impl Reader {
-    ghost use Rattle.abc_session.specs.inner.Reading.{shown, pending_of, used_of, lines_left, TookPart, UsesLine, WantsMore, AsksMore};
+    ghost use Rattle.abc_session.specs.inner.Reading.{shown, pending_of, used_of, lines_left, TookPart, UsesLines, WantsMore, AsksMore};
+    ghost use Rattle.abc_session.specs.inner.Unread.{unread_of};
 
     pub(crate) fn new(alloc: Global, bound: u64) -> Reader
         ensures taken { result.taken ≡ 0 }
@@ -110,19 +91,21 @@ impl Reader {
     }
 
     /// Moves the pending bytes into the line, up to the LF that ends it. True where there is one.
-    fn take_part(&mut self, line: &mut Line) -> Result<bool, AllocError>
+    fn take_part(&mut self, line: &mut Gathered) -> Result<bool, LineStop>
         ensures part { IfOk result (λ found. TookPart (pending_of self.old) (pending_of self.new) (shown line.old) (shown line.new) found) }
         ensures used { result ≡ Ok true → used_of self.old < used_of self.new }
         ensures no_fewer { OnOk result (used_of self.old ≤ used_of self.new) }
-        ensures size { OnOk result (length line.new.text.items + used_of self.old ≤ length line.old.text.items + used_of self.new) }
-        ensures most { length line.old.text.items ≤ MOST_LINE_BYTES → OnOk result (length line.new.text.items ≤ MOST_LINE_BYTES) }
+        ensures size { OnOk result (length line.new.bytes.items + used_of self.old ≤ length line.old.bytes.items + used_of self.new) }
+        ensures memory { IfErr result (λ stop. stop ≡ LineStop.Memory) }
         ensures taken { self.new.taken ≡ self.old.taken }
         ensures bound { self.new.bound ≡ self.old.bound }
         ensures ended { self.new.ended ≡ self.old.ended }
     {
         let pending = &self.piece[self.from..self.to];
         let end = place_of(LF, pending);
-        line.add(&pending[..end])?;
+        let Ok(()) = line.add(&pending[..end]) else {
+            return Err(LineStop::Memory);
+        };
         if end == pending.len() {
             self.from = self.to;
             return Ok(false);
@@ -132,8 +115,9 @@ impl Reader {
     }
 
     /// Takes the memory of the piece before the first read.
-    fn make_room(&mut self) -> Result<(), AllocError>
+    fn make_room(&mut self) -> Result<(), LineStop>
         requires { pending_of self.old ≡ [] }
+        ensures memory { IfErr result (λ stop. stop ≡ LineStop.Memory) }
         ensures room { OnOk result (0 < length self.new.piece.items) }
         ensures used { pending_of self.new ≡ [] }
         ensures used_same { used_of self.new ≡ used_of self.old }
@@ -142,7 +126,10 @@ impl Reader {
         ensures ended { self.new.ended ≡ self.old.ended }
     {
         if self.piece.is_empty() {
-            self.piece = make_piece(self.alloc, PIECE_BYTES)?;
+            let Ok(piece) = make_piece(self.alloc, PIECE_BYTES) else {
+                return Err(LineStop::Memory);
+            };
+            self.piece = piece;
         }
         Ok(())
     }
@@ -164,6 +151,7 @@ impl Reader {
         ensures faultless { OnOk result ((H.now host.new).input_faults ≡ (H.now host.old).input_faults) }
 
         ensures failed { OnErr result (self.new.taken ≡ self.old.taken) }
+        ensures failed_ended { OnErr result (self.new.ended ≡ self.old.ended) }
         ensures failed_left { OnErr result ((H.now host.new).left ≡ (H.now host.old).left) }
         ensures counts { (H.now host.new).taken ≡ self.new.taken }
         ensures bound { self.new.bound ≡ self.old.bound }
@@ -185,17 +173,21 @@ impl Reader {
 
     /// The next line, or none at the end of the input. It reads where the bytes in hand hold no whole line, and no
     /// more after a read that gave nothing.
-    pub(crate) fn next<H: Host>(&mut self, host: &mut H) -> Result<Option<Line>, LineStop>
+    pub(crate) fn next<H: Host>(&mut self, host: &mut H) -> Result<Option<RawLine>, LineStop>
         requires same_count { (H.now host.old).taken ≡ self.old.taken }
         requires ended { H.tells_input → self.old.ended ≡ true → (H.now host.old).left ≡ [] }
 
-        ensures line { H.tells_input → IfOk result (λ found. MatchOption found (lines_left self.old (H.now host.old).left ≡ [])
-            (λ line. lines_left self.old (H.now host.old).left ≡ shown line ∷ lines_left self.new (H.now host.new).left)) }
+        ensures line { H.tells_input → IfOk result (λ found. MatchOption found ((lines_left self.old (H.now host.old).left ≡ []) × (lines_left self.new (H.now host.new).left ≡ []) × (self.new.ended ≡ true))
+            (λ line. lines_left self.old (H.now host.old).left ≡ line ∷ lines_left self.new (H.now host.new).left)) }
+        ensures first { H.tells_input → IfOk result (λ found. IfSome found (λ line. IsFirst (unread_of self.old (H.now host.old).left) line (unread_of self.new (H.now host.new).left))) }
+        ensures over { H.tells_input → IfOk result (λ found. IfNone found (IsOver (unread_of self.old (H.now host.old).left))) }
+        ensures over_stays { H.tells_input → IfOk result (λ found. IfNone found (unread_of self.new (H.now host.new).left ≡ unread_of self.old (H.now host.old).left)) }
+        ensures within { H.tells_input → IsErrOf result LineStop.Long → IsWithinLine (unread_of self.old (H.now host.old).left) }
         ensures uses { H.tells_input → IfOk result (λ found. IfSome found (λ line. self.new.ended ≡ false
-            → UsesLine (pending_of self.old) (H.now host.old).left self.old.taken (pending_of self.new) (H.now host.new).left self.new.taken (shown line))) }
+            → UsesLines (pending_of self.old) (H.now host.old).left self.old.taken (pending_of self.new) (H.now host.new).left self.new.taken (line ∷ []))) }
         ensures used { IfOk result (λ found. IsSome found → used_of self.old < used_of self.new) }
         ensures no_fewer { OnOk result (used_of self.old ≤ used_of self.new) }
-        ensures short { IfOk result (λ found. IfSome found (λ line. length line.text.items ≤ MOST_LINE_BYTES)) }
+        ensures short { IfOk result (λ found. IfSome found (λ line. length line.bytes ≤ MOST_LINE_BYTES)) }
         ensures end { H.tells_input → IfOk result (λ found. IsNone found → (H.now host.new).left ≡ []) }
         ensures end_bound { IfOk result (λ found. IsNone found → self.new.taken < self.new.bound) }
 
@@ -207,8 +199,9 @@ impl Reader {
             → WantsMore (pending_of self.old) (H.now host.old).left self.old.taken self.new.taken }
 
         ensures total { H.tells_input → self.new.taken + length (H.now host.new).left ≡ self.old.taken + length (H.now host.old).left }
+        ensures rises { self.old.taken ≤ self.new.taken }
         ensures counts { (H.now host.new).taken ≡ self.new.taken }
-        ensures ended { H.tells_input → OnOk result (self.new.ended ≡ true → (H.now host.new).left ≡ []) }
+        ensures ended { H.tells_input → self.new.ended ≡ true → (H.now host.new).left ≡ [] }
         ensures bound { self.new.bound ≡ self.old.bound }
         ensures asked { H.tells_said → H.tells_input
             → Asked (AsksMore (pending_of self.old) (H.now host.old).left self.old.taken (length (H.now host.old).said)) (H.now host.old).asked (H.now host.new).asked }
@@ -220,10 +213,10 @@ impl Reader {
         ensures stops { Leaves H.clock H.stopped host.old host.new (H.stopped host.old (H.clock host.old)) }
         ensures now { (c s : List ℕ) → H.stopped host.new (H.clock host.new) c s → H.stopped host.old (H.clock host.old) c s }
     {
-        let mut line = Line::new(self.alloc);
+        let mut line = Gathered::new(self.alloc);
         'pieces: loop {
             if self.take_part(&mut line)? {
-                return Ok(Some(line));
+                return Ok(Some(line.finish()));
             }
             if self.ended {
                 return Ok(line.if_any());

@@ -1,14 +1,8 @@
 //! The replies.
 ghost use Rattle.std.specs.Prelude.{◌≡◌, IfOk};
 ghost use Rattle.abc_session.specs.Reply as said;
-ghost use Rattle.abc_session.specs.Session.{NoReplyIsEmpty};
 
 use std::alloc::{AllocError, Global};
-
-/// No reply is empty.
-pub fn no_reply_is_empty()
-    ensures { NoReplyIsEmpty }
-{}
 
 /// The reply to item k, which ran and wrote nothing.
 pub(crate) fn ok(alloc: Global, k: u64) -> Result<Vec<u8>, AllocError>

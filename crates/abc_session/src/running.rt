@@ -1,15 +1,15 @@
 //! The run: words in, a status out.
-ghost use Rattle.std.specs.Prelude.{◌≡◌, ◌≢◌, ◌⊎◌, ◌≤◌, ◌<◌, ◌↔◌, suc, List, ℕ, ℤ, map, length, Ok, Err, None, Some, option_map};
-ghost use Rattle.abc_outside.specs.Outside.{RoseByOne, IsFaultless};
-ghost use Rattle.abc_outside.specs.Session.{IsBetween, IsBroken, IsCutShort};
+ghost use Rattle.std.specs.Prelude.{◌≡◌, ◌≢◌, ◌⊎◌, ◌≤◌, suc, ℕ, map, length, List, Err, option_map};
 ghost use Rattle.abc_outside.specs.Stop.{Leaves, IsQuiet, Now};
 ghost use Rattle.abc_journal.specs.Journal.{BeginsQuiet};
+ghost use Rattle.abc_turns.specs.Session.{waiting};
 ghost use Rattle.abc_session.specs.Asking.{Asked, AskedRising};
 ghost use Rattle.abc_session.specs.Workspace.{opens};
-ghost use Rattle.abc_session.specs.Session.{Work, after, replies};
-ghost use Rattle.abc_session.specs.Serving.{OpensTo, works, IsSessionPoint, NoneFell, IsStill, OnlyInputFailed, OnlyStoreFailed, OnlySinkFailed};
-ghost use Rattle.abc_session.specs.Settled.{AsksSettled, IsWaiting};
-ghost use Rattle.abc_session.specs.Run.{store_named, IsStart, items_in, IsComplete, IsUntouched, chose, IsStatus, IsRunStatus, NoneRose};
+ghost use Rattle.abc_session.specs.Session.{Work, session_of};
+ghost use Rattle.abc_session.specs.Serving.{IsStill, IsSessionPoint};
+ghost use Rattle.abc_session.specs.Product.{product_bounds};
+ghost use Rattle.abc_session.specs.Settled.{AsksSettled};
+ghost use Rattle.abc_session.specs.Run.{store_named, IsStart, IsComplete, IsUntouched, IsRunStatus, HasCause, StandsSo, IsRun};
 
 use crate::session::{SessionStop, serve_all};
 use crate::status::{
@@ -31,7 +31,7 @@ fn store_of<'a>(words: &[&'a str]) -> Option<&'a str>
     }
 }
 
-/// The status of a run whose session stops so.
+/// The status for this end of a session.
 fn status_of(stop: SessionStop) -> u8
     ensures input_fault { result ≡ INPUT_FAULT → stop ≡ SessionStop.Input }
     ensures store_fault { result ≡ STORE_FAULT → stop ≡ SessionStop.StoreFault }
@@ -53,48 +53,24 @@ fn status_of(stop: SessionStop) -> u8
 fn run_store<H: Host>(alloc: Global, host: &mut H, b: &Bounds) -> u8
     requires { (H.now host.old).taken ≡ 0 }
 
-    ensures complete { H.tells_image → H.tells_said → H.tells_input → result ≡ COMPLETE → IsComplete b.now.image b.now.input (H.now host.old) (H.now host.new) }
-    ensures input_fault { result ≡ INPUT_FAULT → RoseByOne (H.now host.old).input_faults (H.now host.new).input_faults }
-    ensures store_fault { result ≡ STORE_FAULT → RoseByOne (H.now host.old).store_faults (H.now host.new).store_faults }
-    ensures sink_fault { result ≡ SINK_FAULT → RoseByOne (H.now host.old).sink_faults (H.now host.new).sink_faults }
-    ensures input_alone { result ≡ INPUT_FAULT → OnlyInputFailed (H.now host.old) (H.now host.new) }
-    ensures store_alone { result ≡ STORE_FAULT → OnlyStoreFailed (H.now host.old) (H.now host.new) }
-    ensures sink_alone { result ≡ SINK_FAULT → OnlySinkFailed (H.now host.old) (H.now host.new) }
-    ensures faultless { ((result ≡ COMPLETE) ⊎ (result ≡ NOT_A_STORE) ⊎ (result ≡ MEMORY) ⊎ (result ≡ INPUT_TOO_LONG)) → IsFaultless (H.now host.old) (H.now host.new) }
-    ensures not_a_store { H.tells_image → result ≡ NOT_A_STORE → (at : ℕ) × (opens (H.now host.old).image ≡ Err at) }
+    ensures complete { H.tells_image → H.tells_said → H.tells_input → result ≡ COMPLETE → IsComplete b.now (H.now host.old) (H.now host.new) }
+    ensures status { IsRunStatus result }
+    ensures cause { HasCause H.tells_image H.tells_input b.now (H.now host.old) (H.now host.new) result }
+    ensures refused { H.tells_image → (at : ℕ) → opens (H.now host.old).image ≡ Err at → (result ≡ NOT_A_STORE) ⊎ (result ≡ STORE_FAULT) ⊎ (result ≡ MEMORY) }
+    ensures waits { H.tells_image → H.tells_input → (work : Work) → IsStart (H.now host.old).image work → result ≡ INPUT_TOO_LONG → (session_of b.now work (H.now host.old).left).ending ≡ waiting }
+    ensures most_taken { (H.now host.new).taken ≤ b.now.input }
     ensures untouched { H.tells_image → (at : ℕ) → opens (H.now host.old).image ≡ Err at → IsUntouched (H.now host.old) (H.now host.new) }
     ensures untouched_stops { H.tells_image → (at : ℕ) → opens (H.now host.old).image ≡ Err at → Leaves H.clock H.stopped host.old host.new (H.stopped host.old (H.clock host.old)) }
-    ensures refused { H.tells_image → (at : ℕ) → opens (H.now host.old).image ≡ Err at → (result ≡ NOT_A_STORE) ⊎ (result ≡ STORE_FAULT) ⊎ (result ≡ MEMORY) }
-    ensures too_long { result ≡ INPUT_TOO_LONG → (H.now host.new).taken ≡ b.now.input }
-    ensures most_taken { (H.now host.new).taken ≤ b.now.input }
-    ensures too_long_input { H.tells_input → result ≡ INPUT_TOO_LONG → b.now.input ≤ length (H.now host.old).left }
-    ensures status { IsRunStatus result }
     ensures chosen { (H.now host.new).chosen ≡ (H.now host.old).chosen }
-    ensures none_fell { NoneFell (H.now host.old) (H.now host.new) }
-
-    // What was asked for, and what stands after each status but 0, 2 and 6.
     ensures asked { H.tells_image → H.tells_said → H.tells_input → (work : Work) → IsStart (H.now host.old).image work
-        → Asked (AsksSettled b.now.image work (H.now host.old).left (length (H.now host.old).said)) (H.now host.old).asked (H.now host.new).asked }
+        → Asked (AsksSettled b.now work (H.now host.old).left (length (H.now host.old).said)) (H.now host.old).asked (H.now host.new).asked }
     ensures asks_rise { H.tells_said → AskedRising 0 (suc (H.now host.new).taken) (H.now host.old).asked (H.now host.new).asked }
-    ensures waiting { H.tells_image → H.tells_said → H.tells_input → BeginsQuiet H.clock H.stopped host.old (H.now host.old).image
-        → (work : Work) → IsStart (H.now host.old).image work → ((result ≡ INPUT_FAULT) ⊎ (result ≡ INPUT_TOO_LONG))
-        → IsWaiting b.now.image work (H.now host.old).left (H.now host.old).said (H.now host.new) (Now H.clock H.stopped host.new) }
-    ensures between { H.tells_image → H.tells_said → H.tells_input → BeginsQuiet H.clock H.stopped host.old (H.now host.old).image
-        → (work : Work) → IsStart (H.now host.old).image work → result ≡ MEMORY
-        → IsBetween OpensTo (works b.now.image 1 work (items_in b.now.input (H.now host.old).left)) (replies b.now.image 1 work (items_in b.now.input (H.now host.old).left))
-        (H.now host.old).said (H.now host.new).said (Now H.clock H.stopped host.new) }
-    ensures broken { H.tells_image → H.tells_said → H.tells_input → BeginsQuiet H.clock H.stopped host.old (H.now host.old).image
-        → (work : Work) → IsStart (H.now host.old).image work → result ≡ STORE_FAULT
-        → IsBroken OpensTo (works b.now.image 1 work (items_in b.now.input (H.now host.old).left)) (replies b.now.image 1 work (items_in b.now.input (H.now host.old).left))
-        (H.now host.old).said (H.now host.new).said (Now H.clock H.stopped host.new) }
-    ensures cut_short { H.tells_image → H.tells_said → H.tells_input → BeginsQuiet H.clock H.stopped host.old (H.now host.old).image
-        → (work : Work) → IsStart (H.now host.old).image work → result ≡ SINK_FAULT
-        → IsCutShort OpensTo (works b.now.image 1 work (items_in b.now.input (H.now host.old).left)) (replies b.now.image 1 work (items_in b.now.input (H.now host.old).left))
-        (H.now host.old).said (H.now host.new).said (Now H.clock H.stopped host.new) }
+    ensures stands { H.tells_image → H.tells_said → H.tells_input → BeginsQuiet H.clock H.stopped host.old (H.now host.old).image
+        → (work : Work) → IsStart (H.now host.old).image work → StandsSo b.now work (H.now host.old) (H.now host.new) (Now H.clock H.stopped host.new) result }
 
     ensures stops { H.tells_image → H.tells_said → H.tells_input → BeginsQuiet H.clock H.stopped host.old (H.now host.old).image
         → (work : Work) → IsStart (H.now host.old).image work
-        → Leaves H.clock H.stopped host.old host.new (IsSessionPoint b.now.image 1 work (items_in b.now.input (H.now host.old).left) (H.now host.old).said) }
+        → Leaves H.clock H.stopped host.old host.new (IsSessionPoint work (session_of b.now work (H.now host.old).left) (H.now host.old).said) }
     ensures quiet { H.tells_image → BeginsQuiet H.clock H.stopped host.old (H.now host.old).image
         → result ≡ COMPLETE → IsQuiet H.clock H.stopped host.new (H.now host.new).image }
 {
@@ -113,64 +89,7 @@ fn run_store<H: Host>(alloc: Global, host: &mut H, b: &Bounds) -> u8
 /// Runs with these bounds: reads the words, chooses and opens the store, serves the items of the input one after the
 /// other, and says their replies. The answer is the status.
 pub fn run_within<H: Host>(alloc: Global, words: &[&str], host: &mut H, b: &Bounds) -> u8
-    // A complete run.
-    ensures complete { H.tells_image → H.tells_said → H.tells_input → result ≡ COMPLETE → IsComplete b.now.image b.now.input (H.now host.old) (H.now host.new) }
-
-    // When each other status comes.
-    ensures usage { (result ≡ USAGE) ↔ (store_named (map (λ word. word.now) words.now) ≡ None) }
-    ensures input_fault { result ≡ INPUT_FAULT → RoseByOne (H.now host.old).input_faults (H.now host.new).input_faults }
-    ensures store_fault { result ≡ STORE_FAULT → RoseByOne (H.now host.old).store_faults (H.now host.new).store_faults }
-    ensures sink_fault { result ≡ SINK_FAULT → RoseByOne (H.now host.old).sink_faults (H.now host.new).sink_faults }
-    ensures input_alone { result ≡ INPUT_FAULT → OnlyInputFailed (H.now host.old) (H.now host.new) }
-    ensures store_alone { result ≡ STORE_FAULT → OnlyStoreFailed (H.now host.old) (H.now host.new) }
-    ensures sink_alone { result ≡ SINK_FAULT → OnlySinkFailed (H.now host.old) (H.now host.new) }
-    ensures faultless { ((result ≡ COMPLETE) ⊎ (result ≡ NOT_A_STORE) ⊎ (result ≡ MEMORY) ⊎ (result ≡ INPUT_TOO_LONG)) → IsFaultless (H.now host.old) (H.now host.new) }
-    ensures not_a_store { H.tells_image → result ≡ NOT_A_STORE → (at : ℕ) × (opens (H.now host.old).image ≡ Err at) }
-    ensures refused { H.tells_image → (at : ℕ) → opens (H.now host.old).image ≡ Err at → (result ≡ NOT_A_STORE) ⊎ (result ≡ USAGE) ⊎ (result ≡ INPUT_FAULT) ⊎ (result ≡ STORE_FAULT) ⊎ (result ≡ MEMORY) }
-    ensures too_long { result ≡ INPUT_TOO_LONG → (H.now host.new).taken ≡ b.now.input }
-    ensures most_taken { ((H.now host.new).taken ≤ b.now.input) ⊎ ((H.now host.new).taken ≡ (H.now host.old).taken) }
-    ensures too_long_input { H.tells_input → result ≡ INPUT_TOO_LONG → b.now.input ≤ length (H.now host.old).left }
-    ensures status { IsStatus result }
-    ensures completeness { H.tells_image → (targets : List (List ℕ × ℤ)) → opens (H.now host.old).image ≡ Ok targets → NoneRose (H.now host.old) (H.now host.new)
-        → (result ≡ COMPLETE) ⊎ (result ≡ USAGE) ⊎ (result ≡ INPUT_TOO_LONG) ⊎ (result ≡ MEMORY) }
-
-    // What stays, and what was chosen.
-    ensures usage_nothing { result ≡ USAGE → host.new ≡ host.old }
-    ensures untouched { H.tells_image → (at : ℕ) → opens (H.now host.old).image ≡ Err at → IsUntouched (H.now host.old) (H.now host.new) }
-    ensures untouched_stops { H.tells_image → IsStill H.clock H.stopped host.old (H.now host.old).image → (at : ℕ) → opens (H.now host.old).image ≡ Err at
-        → (c s : List ℕ) → H.stopped host.new (H.clock host.old) c s → c ≡ (H.now host.old).image }
-    ensures chosen { H.tells_chosen → (store : List ℕ) → store_named (map (λ word. word.now) words.now) ≡ Some store
-        → ((H.now host.new).chosen ≡ chose store (H.now host.old).chosen) ⊎ (((H.now host.new).chosen ≡ (H.now host.old).chosen) × ((result ≡ INPUT_FAULT) ⊎ (result ≡ STORE_FAULT) ⊎ (result ≡ MEMORY))) }
-    ensures none_fell { NoneFell (H.now host.old) (H.now host.new) }
-
-    // What was asked for, and what stands after each status but 0, 2 and 6.
-    ensures asked { H.tells_image → H.tells_said → H.tells_input → (work : Work) → IsStart (H.now host.old).image work
-        → Asked (AsksSettled b.now.image work (H.now host.old).left (length (H.now host.old).said)) (H.now host.old).asked (H.now host.new).asked }
-    ensures asks_rise { H.tells_said → AskedRising 0 (suc (H.now host.new).taken) (H.now host.old).asked (H.now host.new).asked }
-    ensures waiting { H.tells_image → H.tells_said → H.tells_input → IsStill H.clock H.stopped host.old (H.now host.old).image
-        → (work : Work) → IsStart (H.now host.old).image work → ((result ≡ INPUT_FAULT) ⊎ (result ≡ INPUT_TOO_LONG))
-        → IsWaiting b.now.image work (H.now host.old).left (H.now host.old).said (H.now host.new) (Now H.clock H.stopped host.new) }
-    ensures between { H.tells_image → H.tells_said → H.tells_input → IsStill H.clock H.stopped host.old (H.now host.old).image
-        → (work : Work) → IsStart (H.now host.old).image work → result ≡ MEMORY
-        → IsBetween OpensTo (works b.now.image 1 work (items_in b.now.input (H.now host.old).left)) (replies b.now.image 1 work (items_in b.now.input (H.now host.old).left))
-        (H.now host.old).said (H.now host.new).said (Now H.clock H.stopped host.new) }
-    ensures broken { H.tells_image → H.tells_said → H.tells_input → IsStill H.clock H.stopped host.old (H.now host.old).image
-        → (work : Work) → IsStart (H.now host.old).image work → result ≡ STORE_FAULT
-        → IsBroken OpensTo (works b.now.image 1 work (items_in b.now.input (H.now host.old).left)) (replies b.now.image 1 work (items_in b.now.input (H.now host.old).left))
-        (H.now host.old).said (H.now host.new).said (Now H.clock H.stopped host.new) }
-    ensures cut_short { H.tells_image → H.tells_said → H.tells_input → IsStill H.clock H.stopped host.old (H.now host.old).image
-        → (work : Work) → IsStart (H.now host.old).image work → result ≡ SINK_FAULT
-        → IsCutShort OpensTo (works b.now.image 1 work (items_in b.now.input (H.now host.old).left)) (replies b.now.image 1 work (items_in b.now.input (H.now host.old).left))
-        (H.now host.old).said (H.now host.new).said (Now H.clock H.stopped host.new) }
-
-    // At every moment of the run: what was said is a front of the session's output, and every image that a stop may leave
-    // opens to the workspace after some of the items, which are all of whose reply a byte was said.
-    ensures headline { H.tells_image → H.tells_said → H.tells_input → IsStill H.clock H.stopped host.old (H.now host.old).image
-        → (work : Work) → IsStart (H.now host.old).image work
-        → (c s : List ℕ) → H.stopped host.new (H.clock host.old) c s → IsSessionPoint b.now.image 1 work (items_in b.now.input (H.now host.old).left) (H.now host.old).said c s }
-    ensures last { H.tells_image → H.tells_said → H.tells_input → IsStill H.clock H.stopped host.old (H.now host.old).image → result ≡ COMPLETE
-        → (work : Work) → IsStart (H.now host.old).image work
-        → (c s : List ℕ) → H.stopped host.new (H.clock host.new) c s → opens c ≡ Ok (after b.now.image 1 work (items_in b.now.input (H.now host.old).left)).targets }
+    ensures run { IsRun H.tells_chosen H.tells_image H.tells_input H.tells_said H.now H.clock H.stopped b.now (map (λ word. word.now) words.now) host.old host.new result }
 {
     let Some(store) = store_of(words) else {
         return USAGE;
@@ -183,65 +102,15 @@ pub fn run_within<H: Host>(alloc: Global, words: &[&str], host: &mut H, b: &Boun
 }
 
 /// Runs with the bounds of the product: 2^40 bytes of image and of input. This is the whole program.
+///
+/// The theorem of the program is the clause `headline`: whenever it is stopped, it had said a front of the output of the
+/// session over its input, and whatever image the stop left in the store opens to the workspace after some of the items.
+/// These are all the items of whose reply a byte was said, and at most one more than those whose reply was said whole.
 pub fn run<H: Host>(alloc: Global, words: &[&str], host: &mut H) -> u8
-    // A complete run.
-    ensures complete { H.tells_image → H.tells_said → H.tells_input → result ≡ COMPLETE → IsComplete IMAGE_BOUND INPUT_BOUND (H.now host.old) (H.now host.new) }
-
-    // When each other status comes.
-    ensures usage { (result ≡ USAGE) ↔ (store_named (map (λ word. word.now) words.now) ≡ None) }
-    ensures input_fault { result ≡ INPUT_FAULT → RoseByOne (H.now host.old).input_faults (H.now host.new).input_faults }
-    ensures store_fault { result ≡ STORE_FAULT → RoseByOne (H.now host.old).store_faults (H.now host.new).store_faults }
-    ensures sink_fault { result ≡ SINK_FAULT → RoseByOne (H.now host.old).sink_faults (H.now host.new).sink_faults }
-    ensures input_alone { result ≡ INPUT_FAULT → OnlyInputFailed (H.now host.old) (H.now host.new) }
-    ensures store_alone { result ≡ STORE_FAULT → OnlyStoreFailed (H.now host.old) (H.now host.new) }
-    ensures sink_alone { result ≡ SINK_FAULT → OnlySinkFailed (H.now host.old) (H.now host.new) }
-    ensures faultless { ((result ≡ COMPLETE) ⊎ (result ≡ NOT_A_STORE) ⊎ (result ≡ MEMORY) ⊎ (result ≡ INPUT_TOO_LONG)) → IsFaultless (H.now host.old) (H.now host.new) }
-    ensures not_a_store { H.tells_image → result ≡ NOT_A_STORE → (at : ℕ) × (opens (H.now host.old).image ≡ Err at) }
-    ensures refused { H.tells_image → (at : ℕ) → opens (H.now host.old).image ≡ Err at → (result ≡ NOT_A_STORE) ⊎ (result ≡ USAGE) ⊎ (result ≡ INPUT_FAULT) ⊎ (result ≡ STORE_FAULT) ⊎ (result ≡ MEMORY) }
-    ensures too_long { result ≡ INPUT_TOO_LONG → (H.now host.new).taken ≡ INPUT_BOUND }
-    ensures most_taken { ((H.now host.new).taken ≤ INPUT_BOUND) ⊎ ((H.now host.new).taken ≡ (H.now host.old).taken) }
-    ensures too_long_input { H.tells_input → result ≡ INPUT_TOO_LONG → INPUT_BOUND ≤ length (H.now host.old).left }
-    ensures status { IsStatus result }
-    ensures completeness { H.tells_image → (targets : List (List ℕ × ℤ)) → opens (H.now host.old).image ≡ Ok targets → NoneRose (H.now host.old) (H.now host.new)
-        → (result ≡ COMPLETE) ⊎ (result ≡ USAGE) ⊎ (result ≡ INPUT_TOO_LONG) ⊎ (result ≡ MEMORY) }
-
-    // What stays, and what was chosen.
-    ensures usage_nothing { result ≡ USAGE → host.new ≡ host.old }
-    ensures untouched { H.tells_image → (at : ℕ) → opens (H.now host.old).image ≡ Err at → IsUntouched (H.now host.old) (H.now host.new) }
-    ensures untouched_stops { H.tells_image → IsStill H.clock H.stopped host.old (H.now host.old).image → (at : ℕ) → opens (H.now host.old).image ≡ Err at
-        → (c s : List ℕ) → H.stopped host.new (H.clock host.old) c s → c ≡ (H.now host.old).image }
-    ensures chosen { H.tells_chosen → (store : List ℕ) → store_named (map (λ word. word.now) words.now) ≡ Some store
-        → ((H.now host.new).chosen ≡ chose store (H.now host.old).chosen) ⊎ (((H.now host.new).chosen ≡ (H.now host.old).chosen) × ((result ≡ INPUT_FAULT) ⊎ (result ≡ STORE_FAULT) ⊎ (result ≡ MEMORY))) }
-    ensures none_fell { NoneFell (H.now host.old) (H.now host.new) }
-
-    // What was asked for, and what stands after each status but 0, 2 and 6.
-    ensures asked { H.tells_image → H.tells_said → H.tells_input → (work : Work) → IsStart (H.now host.old).image work
-        → Asked (AsksSettled IMAGE_BOUND work (H.now host.old).left (length (H.now host.old).said)) (H.now host.old).asked (H.now host.new).asked }
-    ensures asks_rise { H.tells_said → AskedRising 0 (suc (H.now host.new).taken) (H.now host.old).asked (H.now host.new).asked }
-    ensures waiting { H.tells_image → H.tells_said → H.tells_input → IsStill H.clock H.stopped host.old (H.now host.old).image
-        → (work : Work) → IsStart (H.now host.old).image work → ((result ≡ INPUT_FAULT) ⊎ (result ≡ INPUT_TOO_LONG))
-        → IsWaiting IMAGE_BOUND work (H.now host.old).left (H.now host.old).said (H.now host.new) (Now H.clock H.stopped host.new) }
-    ensures between { H.tells_image → H.tells_said → H.tells_input → IsStill H.clock H.stopped host.old (H.now host.old).image
-        → (work : Work) → IsStart (H.now host.old).image work → result ≡ MEMORY
-        → IsBetween OpensTo (works IMAGE_BOUND 1 work (items_in INPUT_BOUND (H.now host.old).left)) (replies IMAGE_BOUND 1 work (items_in INPUT_BOUND (H.now host.old).left))
-        (H.now host.old).said (H.now host.new).said (Now H.clock H.stopped host.new) }
-    ensures broken { H.tells_image → H.tells_said → H.tells_input → IsStill H.clock H.stopped host.old (H.now host.old).image
-        → (work : Work) → IsStart (H.now host.old).image work → result ≡ STORE_FAULT
-        → IsBroken OpensTo (works IMAGE_BOUND 1 work (items_in INPUT_BOUND (H.now host.old).left)) (replies IMAGE_BOUND 1 work (items_in INPUT_BOUND (H.now host.old).left))
-        (H.now host.old).said (H.now host.new).said (Now H.clock H.stopped host.new) }
-    ensures cut_short { H.tells_image → H.tells_said → H.tells_input → IsStill H.clock H.stopped host.old (H.now host.old).image
-        → (work : Work) → IsStart (H.now host.old).image work → result ≡ SINK_FAULT
-        → IsCutShort OpensTo (works IMAGE_BOUND 1 work (items_in INPUT_BOUND (H.now host.old).left)) (replies IMAGE_BOUND 1 work (items_in INPUT_BOUND (H.now host.old).left))
-        (H.now host.old).said (H.now host.new).said (Now H.clock H.stopped host.new) }
-
-    // At every moment of the run: what was said is a front of the session's output, and every image that a stop may leave
-    // opens to the workspace after some of the items, which are all of whose reply a byte was said.
     ensures headline { H.tells_image → H.tells_said → H.tells_input → IsStill H.clock H.stopped host.old (H.now host.old).image
         → (work : Work) → IsStart (H.now host.old).image work
-        → (c s : List ℕ) → H.stopped host.new (H.clock host.old) c s → IsSessionPoint IMAGE_BOUND 1 work (items_in INPUT_BOUND (H.now host.old).left) (H.now host.old).said c s }
-    ensures last { H.tells_image → H.tells_said → H.tells_input → IsStill H.clock H.stopped host.old (H.now host.old).image → result ≡ COMPLETE
-        → (work : Work) → IsStart (H.now host.old).image work
-        → (c s : List ℕ) → H.stopped host.new (H.clock host.new) c s → opens c ≡ Ok (after IMAGE_BOUND 1 work (items_in INPUT_BOUND (H.now host.old).left)).targets }
+        → (c s : List ℕ) → H.stopped host.new (H.clock host.old) c s → IsSessionPoint work (session_of product_bounds work (H.now host.old).left) (H.now host.old).said c s }
+    ensures run { IsRun H.tells_chosen H.tells_image H.tells_input H.tells_said H.now H.clock H.stopped product_bounds (map (λ word. word.now) words.now) host.old host.new result }
 {
     let bounds = Bounds {
         input: INPUT_BOUND,

@@ -2,20 +2,20 @@
 ghost use Rattle.std.specs.Prelude.{◌≡◌, ◌≤◌, ◌<◌, ◌⊎◌, ◌++◌, true, List, ℕ, ℤ, length, take, IfOk, IfErr, OnOk, IsOk, IsErrOf, IsTrue, Ok, Some, None};
 ghost use Rattle.abc_outside.specs.Outside.{RoseByOne, IsFaultless, KeepsButStore};
 ghost use Rattle.abc_outside.specs.Stop.{Leaves, IsQuiet};
+ghost use Rattle.abc_journal.specs.declared.layout.Bounds.{Bounds};
 ghost use Rattle.abc_session.specs.Command.{form_of, put, write, is_some_of, is_letter};
 ghost use Rattle.abc_session.specs.inner.CommandView.{form_of_command, source_of, HasNumber, IsFit};
-ghost use Rattle.abc_session.specs.inner.Reading.{shown};
 ghost use Rattle.abc_session.specs.Reply.{missing_reply};
 ghost use Rattle.abc_session.specs.Targets.{IsNumber};
 ghost use Rattle.abc_session.specs.Session.{Outcome, outcome, outcome_of, with_source, put_outcome};
 ghost use Rattle.abc_session.specs.Serving.{work_of, Holds, OpensTo, IsItemStop, KeepsInput, OnlyStoreFailed, OnlySinkFailed};
-ghost use Rattle.abc_outside.specs.Session.{IsInCommit};
+ghost use Rattle.abc_turns.specs.Stops.{IsInCommit};
 
 use crate::command::{Command, Source, command_in};
-use crate::line::Line;
 use crate::reply;
 use crate::say::say_all;
 use crate::store::{PutFault, Store};
+use abc_num::RawLine;
 use abc_num::limits::MOST_LINE_BYTES;
 use abc_outside::{Failed, Host};
 use std::alloc::{AllocError, Global};
@@ -40,14 +40,15 @@ impl From<AllocError> for ServeStop {
 }
 
 /// The command of a line, where it is one.
-fn command_of(line: &Line) -> Option<Command<'_>>
-    ensures form { form_of_command result ≡ form_of (shown line.now) }
-    ensures fit { IsFit (length line.now.text.items) result }
+fn command_of(line: &RawLine) -> Option<Command<'_>>
+    ensures form { form_of_command result ≡ form_of line.now }
+    ensures fit { IsFit (length line.now.bytes) result }
 {
-    if line.long || line.text.first() == Some(&b' ') {
+    let bytes = line.bytes.bytes();
+    if line.long || bytes.first() == Some(&b' ') {
         return None;
     }
-    command_in(&line.text)
+    command_in(bytes)
 }
 
 /// The value that stands there, or the name of the target that has none.
@@ -72,7 +73,7 @@ fn write_value(
     k: u64,
 ) -> Result<Vec<u8>, ServeStop>
     requires { HasNumber value }
-    ensures reply { (bound : ℕ) → IfOk result (λ reply. outcome_of bound k (work_of store.now) (write (source_of value.entry)) ≡ record { reply = reply.items; work = work_of store.now }) }
+    ensures reply { (bounds : Bounds) → IfOk result (λ reply. outcome_of bounds k (work_of store.now) (write (source_of value.entry)) ≡ record { reply = reply.items; work = work_of store.now }) }
     ensures memory { IfErr result (λ stop. stop ≡ ServeStop.Memory) }
 {
     match value_of(store, value) {
@@ -96,7 +97,7 @@ fn put_value<H: Host>(
     requires name { is_some_of is_letter name.now ≡ true }
     requires value { IsNumber value }
 
-    ensures outcome { IfOk result (λ reply. put_outcome store.old.journal.bounds.image k (work_of store.old) name.now value ≡ record { reply = reply.items; work = work_of store.new }) }
+    ensures outcome { IfOk result (λ reply. put_outcome store.old.journal.bounds k (work_of store.old) name.now value ≡ record { reply = reply.items; work = work_of store.new }) }
     ensures holds { H.tells_image → OnOk result (Holds (H.now host.new).image (work_of store.new)) }
     ensures fault { IsErrOf result ServeStop.StoreFault → RoseByOne (H.now host.old).store_faults (H.now host.new).store_faults }
     ensures faultless { OnOk result ((H.now host.new).store_faults ≡ (H.now host.old).store_faults) }
@@ -110,7 +111,7 @@ fn put_value<H: Host>(
     ensures stops { H.tells_image → IsQuiet H.clock H.stopped host.old (H.now host.old).image
         → ((c s : List ℕ) → H.stopped host.old (H.clock host.old) c s → s ≡ (H.now host.old).said)
         → Leaves H.clock H.stopped host.old host.new (IsInCommit OpensTo (work_of store.old)
-        (put_outcome store.old.journal.bounds.image k (work_of store.old) name.now value).work (H.now host.old).said) }
+        (put_outcome store.old.journal.bounds k (work_of store.old) name.now value).work (H.now host.old).said) }
     ensures quiet { H.tells_image → IsQuiet H.clock H.stopped host.old (H.now host.old).image
         → OnOk result (IsQuiet H.clock H.stopped host.new (H.now host.new).image) }
 {
@@ -131,14 +132,14 @@ fn answer<H: Host>(
     alloc: Global,
     store: &mut Store,
     host: &mut H,
-    line: &Line,
+    line: &RawLine,
     k: u64,
 ) -> Result<Vec<u8>, ServeStop>
     requires sound { IsTrue store.old.journal.sound }
     requires holds { H.tells_image → Holds (H.now host.old).image (work_of store.old) }
-    requires short { length line.now.text.items ≤ MOST_LINE_BYTES }
+    requires short { length line.now.bytes ≤ MOST_LINE_BYTES }
 
-    ensures outcome { IfOk result (λ reply. outcome store.old.journal.bounds.image k (work_of store.old) (shown line.now) ≡ record { reply = reply.items; work = work_of store.new }) }
+    ensures outcome { IfOk result (λ reply. outcome store.old.journal.bounds k (work_of store.old) line.now ≡ record { reply = reply.items; work = work_of store.new }) }
     ensures holds { H.tells_image → OnOk result (Holds (H.now host.new).image (work_of store.new)) }
     ensures fault { IsErrOf result ServeStop.StoreFault → RoseByOne (H.now host.old).store_faults (H.now host.new).store_faults }
     ensures faultless { OnOk result ((H.now host.new).store_faults ≡ (H.now host.old).store_faults) }
@@ -152,7 +153,7 @@ fn answer<H: Host>(
     ensures stops { H.tells_image → IsQuiet H.clock H.stopped host.old (H.now host.old).image
         → ((c s : List ℕ) → H.stopped host.old (H.clock host.old) c s → s ≡ (H.now host.old).said)
         → Leaves H.clock H.stopped host.old host.new (IsInCommit OpensTo (work_of store.old)
-        (outcome store.old.journal.bounds.image k (work_of store.old) (shown line.now)).work (H.now host.old).said) }
+        (outcome store.old.journal.bounds k (work_of store.old) line.now).work (H.now host.old).said) }
     ensures quiet { H.tells_image → IsQuiet H.clock H.stopped host.old (H.now host.old).image
         → OnOk result (IsQuiet H.clock H.stopped host.new (H.now host.new).image) }
 {
@@ -171,17 +172,17 @@ pub(crate) fn serve_item<H: Host>(
     alloc: Global,
     store: &mut Store,
     host: &mut H,
-    line: &Line,
+    line: &RawLine,
     k: u64,
 ) -> Result<(), ServeStop>
     requires sound { IsTrue store.old.journal.sound }
     requires holds { H.tells_image → Holds (H.now host.old).image (work_of store.old) }
-    requires short { length line.now.text.items ≤ MOST_LINE_BYTES }
+    requires short { length line.now.bytes ≤ MOST_LINE_BYTES }
 
-    ensures work { (IsOk result ⊎ IsErrOf result ServeStop.SinkFault) → work_of store.new ≡ (outcome store.old.journal.bounds.image k (work_of store.old) (shown line.now)).work }
-    ensures said { H.tells_said → OnOk result ((H.now host.new).said ≡ (H.now host.old).said ++ (outcome store.old.journal.bounds.image k (work_of store.old) (shown line.now)).reply) }
-    ensures part { H.tells_said → IsErrOf result ServeStop.SinkFault → (n : ℕ) × (n < length (outcome store.old.journal.bounds.image k (work_of store.old) (shown line.now)).reply)
-        × ((H.now host.new).said ≡ (H.now host.old).said ++ take n (outcome store.old.journal.bounds.image k (work_of store.old) (shown line.now)).reply) }
+    ensures work { (IsOk result ⊎ IsErrOf result ServeStop.SinkFault) → work_of store.new ≡ (outcome store.old.journal.bounds k (work_of store.old) line.now).work }
+    ensures said { H.tells_said → OnOk result ((H.now host.new).said ≡ (H.now host.old).said ++ (outcome store.old.journal.bounds k (work_of store.old) line.now).reply) }
+    ensures part { H.tells_said → IsErrOf result ServeStop.SinkFault → (n : ℕ) × (n < length (outcome store.old.journal.bounds k (work_of store.old) line.now).reply)
+        × ((H.now host.new).said ≡ (H.now host.old).said ++ take n (outcome store.old.journal.bounds k (work_of store.old) line.now).reply) }
     ensures unsaid { (IsErrOf result ServeStop.StoreFault ⊎ IsErrOf result ServeStop.Memory) → (H.now host.new).said ≡ (H.now host.old).said }
     ensures memory { IsErrOf result ServeStop.Memory → host.new ≡ host.old }
     ensures store_fault { IsErrOf result ServeStop.StoreFault → RoseByOne (H.now host.old).store_faults (H.now host.new).store_faults }
@@ -197,7 +198,7 @@ pub(crate) fn serve_item<H: Host>(
 
     // At every moment of the call, and at its end.
     ensures stops { H.tells_image → H.tells_said → IsQuiet H.clock H.stopped host.old (H.now host.old).image
-        → Leaves H.clock H.stopped host.old host.new (IsItemStop store.old.journal.bounds.image k (work_of store.old) (shown line.now) (H.now host.old).said) }
+        → Leaves H.clock H.stopped host.old host.new (IsItemStop store.old.journal.bounds k (work_of store.old) line.now (H.now host.old).said) }
     ensures quiet { H.tells_image → IsQuiet H.clock H.stopped host.old (H.now host.old).image
         → (IsOk result ⊎ IsErrOf result ServeStop.SinkFault) → IsQuiet H.clock H.stopped host.new (H.now host.new).image }
 {

@@ -1,24 +1,24 @@
 //! The session: items one after the other, to the end of the input.
-ghost use Rattle.std.specs.Prelude.{◌≡◌, ◌≢◌, ◌≤◌, ◌<◌, ◌⊎◌, ◌++◌, suc, [], true, false, List, ℕ, length, ◌+◌, Ok, IfOk, OnOk, IsErrOf, IsTrue, if◌then◌else◌};
-ghost use Rattle.std.specs.List.{concat};
+ghost use Rattle.std.specs.Prelude.{◌≡◌, ◌==◌, ◌≢◌, ◌≤◌, ◌<◌, ◌⊎◌, ◌++◌, ◌+◌, suc, [], true, false, List, ℕ, length, Ok, OnOk, IsErrOf, IsTrue};
+ghost use Rattle.std.specs.List.{list_all};
 ghost use Rattle.abc_outside.specs.Outside.{RoseByOne, IsFaultless};
-ghost use Rattle.abc_outside.specs.Stop.{Leaves, IsQuiet};
-ghost use Rattle.abc_outside.specs.Session.{HasServed};
-ghost use Rattle.abc_session.specs.Lines.{items_of, lines_of};
-ghost use Rattle.abc_session.specs.inner.Reading.{lines_left, used_of};
-ghost use Rattle.abc_session.specs.Session.{Work, after, replies};
-ghost use Rattle.abc_session.specs.Serving.{work_of, works, Holds, IsSessionPoint, NoneFell, OnlyInputFailed, OnlyStoreFailed, OnlySinkFailed};
-ghost use Rattle.abc_outside.specs.Session.{IsBetween, IsBroken, IsCutShort};
-ghost use Rattle.abc_outside.specs.Stop.{Now};
+ghost use Rattle.abc_outside.specs.Stop.{Leaves, IsQuiet, Now};
+ghost use Rattle.abc_turns.specs.Session.{waiting, replies, output, works, last_work};
+ghost use Rattle.abc_turns.specs.Stops.{IsBetween, IsBroken, IsCutShort};
 ghost use Rattle.abc_session.specs.Asking.{Asked, AskedRising, next_ask};
-ghost use Rattle.abc_session.specs.inner.Reading.{pending_of, WantsMore, AsksMore};
-ghost use Rattle.abc_session.specs.Serving.{OpensTo};
-ghost use Rattle.abc_session.specs.Settled.{AsksSettled, IsWaiting, IsBeforeLine};
+ghost use Rattle.abc_session.specs.Lines.{is_blank};
+ghost use Rattle.abc_session.specs.Session.{session_of};
+ghost use Rattle.abc_session.specs.Serving.{work_of, OpensTo, Holds, IsSessionPoint, NoneFell, OnlyInputFailed, OnlyStoreFailed, OnlySinkFailed};
+ghost use Rattle.abc_session.specs.Settled.{AsksSettled, IsWaiting};
+ghost use Rattle.abc_session.specs.Run.{HasEnded};
+ghost use Rattle.abc_session.specs.inner.Place.{place_at, lines_at, session_at, WentOn};
+ghost use Rattle.abc_session.specs.inner.Reading.{pending_of, used_of, WantsMore, AsksMore};
 
-use crate::reader::{LineStop, Reader};
+use crate::reader::Reader;
 use crate::serve::{ServeStop, serve_item};
 use crate::store::Store;
-use abc_outside::Host;
+use abc_num::RawLine;
+use abc_outside::{Host, LineStop};
 use std::alloc::Global;
 
 /// Why a session ends before the end of its input.
@@ -59,6 +59,19 @@ fn stop_of_item(stop: ServeStop) -> SessionStop
     }
 }
 
+fn are_spaces(text: &[u8]) -> bool
+    ensures { result ≡ list_all (λ byte. byte == 32) text.now }
+{
+    text.iter().all(|byte| *byte == b' ')
+}
+
+/// Whether a line means nothing: no bytes, or spaces alone.
+fn is_blank(line: &RawLine) -> bool
+    ensures { result ≡ is_blank line.now }
+{
+    !line.long && are_spaces(line.bytes.bytes())
+}
+
 /// Serves the next line, if it is an item. False at the end of the input.
 fn turn<H: Host>(
     alloc: Global,
@@ -73,12 +86,9 @@ fn turn<H: Host>(
     requires ended { H.tells_input → reader.old.ended ≡ true → (H.now host.old).left ≡ [] }
     requires counted { served.old ≤ used_of reader.old }
 
-    ensures goes_on { H.tells_input → IfOk result (λ more. HasServed
-        (works store.old.journal.bounds.image (suc served.old) (work_of store.old) (items_of (lines_left reader.old (H.now host.old).left)))
-        (replies store.old.journal.bounds.image (suc served.old) (work_of store.old) (items_of (lines_left reader.old (H.now host.old).left)))
-        (works store.old.journal.bounds.image (suc served.new) (work_of store.new) (if more then items_of (lines_left reader.new (H.now host.new).left) else []))
-        (replies store.old.journal.bounds.image (suc served.new) (work_of store.new) (if more then items_of (lines_left reader.new (H.now host.new).left) else []))
-        H.tells_said (H.now host.old).said (H.now host.new).said) }
+    ensures goes_on { H.tells_input → OnOk result (WentOn store.old.journal.bounds H.tells_said
+        (place_at served.old (work_of store.old) reader.old (H.now host.old)) (place_at served.new (work_of store.new) reader.new (H.now host.new))) }
+    ensures over { H.tells_input → result ≡ Ok false → lines_at (place_at served.new (work_of store.new) reader.new (H.now host.new)) ≡ [] }
     ensures end { H.tells_input → result ≡ Ok false → (H.now host.new).left ≡ [] }
     ensures end_bound { result ≡ Ok false → reader.new.taken < reader.new.bound }
 
@@ -105,11 +115,7 @@ fn turn<H: Host>(
     ensures chosen { (H.now host.new).chosen ≡ (H.now host.old).chosen }
     ensures none_fell { NoneFell (H.now host.old) (H.now host.new) }
 
-    // Where it stands, and what it asked for.
-    ensures before { H.tells_input → (start : Work) (input said : List ℕ)
-        → IsBeforeLine store.old.journal.bounds.image start input said H.tells_said served.old (work_of store.old) reader.old (H.now host.old)
-        → result ≡ Ok true → reader.new.ended ≡ false
-        → IsBeforeLine store.old.journal.bounds.image start input said H.tells_said served.new (work_of store.new) reader.new (H.now host.new) }
+    // What it asked for.
     ensures asked { H.tells_said → H.tells_input
         → Asked (AsksMore (pending_of reader.old) (H.now host.old).left reader.old.taken (length (H.now host.old).said)) (H.now host.old).asked (H.now host.new).asked }
     ensures asks_rise { H.tells_said → AskedRising (next_ask reader.old.taken reader.old.ended) (next_ask reader.new.taken reader.new.ended) (H.now host.old).asked (H.now host.new).asked }
@@ -125,18 +131,18 @@ fn turn<H: Host>(
         → (IsErrOf result SessionStop.Input ⊎ IsErrOf result SessionStop.Long ⊎ IsErrOf result SessionStop.Memory)
         → (c s : List ℕ) → Now H.clock H.stopped host.new c s → OpensTo c (work_of store.old) }
     ensures broken { H.tells_image → H.tells_said → H.tells_input → IsQuiet H.clock H.stopped host.old (H.now host.old).image → IsErrOf result SessionStop.StoreFault
-        → IsBroken OpensTo (works store.old.journal.bounds.image (suc served.old) (work_of store.old) (items_of (lines_left reader.old (H.now host.old).left)))
-        (replies store.old.journal.bounds.image (suc served.old) (work_of store.old) (items_of (lines_left reader.old (H.now host.old).left)))
+        → IsBroken OpensTo (works (work_of store.old) (session_at store.old.journal.bounds (place_at served.old (work_of store.old) reader.old (H.now host.old))))
+        (replies (session_at store.old.journal.bounds (place_at served.old (work_of store.old) reader.old (H.now host.old))))
         (H.now host.old).said (H.now host.new).said (Now H.clock H.stopped host.new) }
     ensures cut_short { H.tells_image → H.tells_said → H.tells_input → IsQuiet H.clock H.stopped host.old (H.now host.old).image → IsErrOf result SessionStop.SinkFault
-        → IsCutShort OpensTo (works store.old.journal.bounds.image (suc served.old) (work_of store.old) (items_of (lines_left reader.old (H.now host.old).left)))
-        (replies store.old.journal.bounds.image (suc served.old) (work_of store.old) (items_of (lines_left reader.old (H.now host.old).left)))
+        → IsCutShort OpensTo (works (work_of store.old) (session_at store.old.journal.bounds (place_at served.old (work_of store.old) reader.old (H.now host.old))))
+        (replies (session_at store.old.journal.bounds (place_at served.old (work_of store.old) reader.old (H.now host.old))))
         (H.now host.old).said (H.now host.new).said (Now H.clock H.stopped host.new) }
 
     // At every moment of the call, and at its end.
     ensures stops { H.tells_image → H.tells_said → H.tells_input → IsQuiet H.clock H.stopped host.old (H.now host.old).image
-        → Leaves H.clock H.stopped host.old host.new (IsSessionPoint store.old.journal.bounds.image (suc served.old) (work_of store.old)
-        (items_of (lines_left reader.old (H.now host.old).left)) (H.now host.old).said) }
+        → Leaves H.clock H.stopped host.old host.new (IsSessionPoint (work_of store.old)
+        (session_at store.old.journal.bounds (place_at served.old (work_of store.old) reader.old (H.now host.old))) (H.now host.old).said) }
     ensures quiet { H.tells_image → IsQuiet H.clock H.stopped host.old (H.now host.old).image
         → OnOk result (IsQuiet H.clock H.stopped host.new (H.now host.new).image) }
 {
@@ -145,7 +151,7 @@ fn turn<H: Host>(
         Ok(None) => return Ok(false),
         Err(stop) => return Err(stop_of_line(stop)),
     };
-    if line.is_blank() {
+    if is_blank(&line) {
         return Ok(true);
     }
     *served += 1;
@@ -165,17 +171,18 @@ pub(crate) fn serve_all<H: Host>(
     requires sound { IsTrue store.old.journal.sound }
     requires holds { H.tells_image → Holds (H.now host.old).image (work_of store.old) }
     requires none_taken { (H.now host.old).taken ≡ 0 }
+    requires same_bound { bound ≡ store.old.journal.bounds.input }
 
     ensures said { H.tells_said → H.tells_input → OnOk result ((H.now host.new).said ≡ (H.now host.old).said
-        ++ concat (replies store.old.journal.bounds.image 1 (work_of store.old) (items_of (lines_of bound (H.now host.old).left)))) }
-    ensures work { H.tells_input → OnOk result (work_of store.new ≡ after store.old.journal.bounds.image 1 (work_of store.old) (items_of (lines_of bound (H.now host.old).left))) }
+        ++ output (session_of store.old.journal.bounds (work_of store.old) (H.now host.old).left)) }
+    ensures work { H.tells_input → OnOk result (work_of store.new ≡ last_work (work_of store.old) (session_of store.old.journal.bounds (work_of store.old) (H.now host.old).left)) }
     ensures holds { H.tells_image → OnOk result (Holds (H.now host.new).image (work_of store.new)) }
-    ensures read { H.tells_input → OnOk result ((H.now host.new).left ≡ []) }
-    ensures in_bound { H.tells_input → OnOk result (length (H.now host.old).left < bound) }
+    ensures ended { H.tells_input → OnOk result (HasEnded (session_of store.old.journal.bounds (work_of store.old) (H.now host.old).left).ending store.old.journal.bounds.input (H.now host.old) (H.now host.new)) }
 
     ensures long { IsErrOf result SessionStop.Long → (H.now host.new).taken ≡ bound }
     ensures most_taken { (H.now host.new).taken ≤ bound }
     ensures long_input { H.tells_input → IsErrOf result SessionStop.Long → bound ≤ length (H.now host.old).left }
+    ensures waits { H.tells_input → IsErrOf result SessionStop.Long → (session_of store.old.journal.bounds (work_of store.old) (H.now host.old).left).ending ≡ waiting }
     ensures input_fault { IsErrOf result SessionStop.Input → RoseByOne (H.now host.old).input_faults (H.now host.new).input_faults }
     ensures store_fault { IsErrOf result SessionStop.StoreFault → RoseByOne (H.now host.old).store_faults (H.now host.new).store_faults }
     ensures sink_fault { IsErrOf result SessionStop.SinkFault → RoseByOne (H.now host.old).sink_faults (H.now host.new).sink_faults }
@@ -188,29 +195,25 @@ pub(crate) fn serve_all<H: Host>(
     ensures none_fell { NoneFell (H.now host.old) (H.now host.new) }
 
     // What was asked for, and what stands where the session stops.
-    ensures asked { H.tells_said → H.tells_input → Asked (AsksSettled store.old.journal.bounds.image (work_of store.old) (H.now host.old).left (length (H.now host.old).said))
+    ensures asked { H.tells_said → H.tells_input → Asked (AsksSettled store.old.journal.bounds (work_of store.old) (H.now host.old).left (length (H.now host.old).said))
         (H.now host.old).asked (H.now host.new).asked }
     ensures asks_rise { H.tells_said → AskedRising 0 (suc (H.now host.new).taken) (H.now host.old).asked (H.now host.new).asked }
     ensures waiting { H.tells_image → H.tells_said → H.tells_input → IsQuiet H.clock H.stopped host.old (H.now host.old).image
         → (IsErrOf result SessionStop.Input ⊎ IsErrOf result SessionStop.Long)
-        → IsWaiting store.old.journal.bounds.image (work_of store.old) (H.now host.old).left (H.now host.old).said (H.now host.new) (Now H.clock H.stopped host.new) }
+        → IsWaiting store.old.journal.bounds (work_of store.old) (H.now host.old).left (H.now host.old).said (H.now host.new) (Now H.clock H.stopped host.new) }
     ensures between { H.tells_image → H.tells_said → H.tells_input → IsQuiet H.clock H.stopped host.old (H.now host.old).image → IsErrOf result SessionStop.Memory
-        → IsBetween OpensTo (works store.old.journal.bounds.image 1 (work_of store.old) (items_of (lines_of bound (H.now host.old).left)))
-        (replies store.old.journal.bounds.image 1 (work_of store.old) (items_of (lines_of bound (H.now host.old).left)))
+        → IsBetween OpensTo (works (work_of store.old) (session_of store.old.journal.bounds (work_of store.old) (H.now host.old).left)) (replies (session_of store.old.journal.bounds (work_of store.old) (H.now host.old).left))
         (H.now host.old).said (H.now host.new).said (Now H.clock H.stopped host.new) }
     ensures broken { H.tells_image → H.tells_said → H.tells_input → IsQuiet H.clock H.stopped host.old (H.now host.old).image → IsErrOf result SessionStop.StoreFault
-        → IsBroken OpensTo (works store.old.journal.bounds.image 1 (work_of store.old) (items_of (lines_of bound (H.now host.old).left)))
-        (replies store.old.journal.bounds.image 1 (work_of store.old) (items_of (lines_of bound (H.now host.old).left)))
+        → IsBroken OpensTo (works (work_of store.old) (session_of store.old.journal.bounds (work_of store.old) (H.now host.old).left)) (replies (session_of store.old.journal.bounds (work_of store.old) (H.now host.old).left))
         (H.now host.old).said (H.now host.new).said (Now H.clock H.stopped host.new) }
     ensures cut_short { H.tells_image → H.tells_said → H.tells_input → IsQuiet H.clock H.stopped host.old (H.now host.old).image → IsErrOf result SessionStop.SinkFault
-        → IsCutShort OpensTo (works store.old.journal.bounds.image 1 (work_of store.old) (items_of (lines_of bound (H.now host.old).left)))
-        (replies store.old.journal.bounds.image 1 (work_of store.old) (items_of (lines_of bound (H.now host.old).left)))
+        → IsCutShort OpensTo (works (work_of store.old) (session_of store.old.journal.bounds (work_of store.old) (H.now host.old).left)) (replies (session_of store.old.journal.bounds (work_of store.old) (H.now host.old).left))
         (H.now host.old).said (H.now host.new).said (Now H.clock H.stopped host.new) }
 
     // At every moment of the session, and at its end.
     ensures stops { H.tells_image → H.tells_said → H.tells_input → IsQuiet H.clock H.stopped host.old (H.now host.old).image
-        → Leaves H.clock H.stopped host.old host.new (IsSessionPoint store.old.journal.bounds.image 1 (work_of store.old)
-        (items_of (lines_of bound (H.now host.old).left)) (H.now host.old).said) }
+        → Leaves H.clock H.stopped host.old host.new (IsSessionPoint (work_of store.old) (session_of store.old.journal.bounds (work_of store.old) (H.now host.old).left) (H.now host.old).said) }
     ensures quiet { H.tells_image → IsQuiet H.clock H.stopped host.old (H.now host.old).image
         → OnOk result (IsQuiet H.clock H.stopped host.new (H.now host.new).image) }
 {

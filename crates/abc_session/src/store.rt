@@ -7,7 +7,7 @@ ghost use Rattle.abc_journal.specs.Image.{settled_image};
 ghost use Rattle.abc_journal.specs.Journal.{BeginsQuiet};
 ghost use Rattle.abc_session.specs.Command.{is_some_of, is_letter};
 ghost use Rattle.abc_session.specs.Targets.{IsNumber};
-ghost use Rattle.abc_session.specs.Workspace.{opens, targets_from};
+ghost use Rattle.abc_session.specs.Workspace.{Workspace, empty, opens, kept_from};
 
 use crate::record::{apply, spell_change};
 use crate::targets::Targets;
@@ -62,8 +62,8 @@ pub(crate) struct Store {
 
 /// The targets after all changes of these payloads. None where one of them spells no changes.
 fn replay(alloc: Global, payloads: &[Text]) -> Result<Option<Targets>, AllocError>
-    ensures { IfOk result (λ found. (gate : ℕ) → MatchOption found ((at : ℕ) × (targets_from gate [] payloads.now ≡ Err at))
-        (λ targets. targets_from gate [] payloads.now ≡ Ok targets)) }
+    ensures { IfOk result (λ found. (gate : ℕ) → MatchOption found ((at : ℕ) × (kept_from gate empty payloads.now ≡ Err at))
+        (λ targets. kept_from gate empty payloads.now ≡ Ok (record { targets = targets }))) }
 {
     let mut targets = Targets::new(alloc);
     for payload in payloads {
@@ -76,13 +76,13 @@ fn replay(alloc: Global, payloads: &[Text]) -> Result<Option<Targets>, AllocErro
 
 impl Store {
     ghost use Rattle.abc_session.specs.Serving.{work_of, Holds, OpensTo};
-    ghost use Rattle.abc_session.specs.Session.{stored};
+    ghost use Rattle.abc_session.specs.inner.Stored.{stored};
     ghost use Rattle.abc_session.specs.Record.{spelled};
     ghost use Rattle.abc_journal.specs.Journal.{need_of};
 
-    /// Opens the store, which holds the fresh image where it had no more bytes than that.
+    /// Opens the store. An image of at most 65 bytes is replaced by the fresh one.
     pub(crate) fn open<H: Host>(alloc: Global, host: &mut H, b: &Bounds) -> Result<Store, OpenFault>
-        ensures opened { H.tells_image → IfOk result (λ store. opens (H.now host.old).image ≡ Ok store.targets) }
+        ensures opened { H.tells_image → IfOk result (λ store. opens (H.now host.old).image ≡ Ok (work_of store).kept) }
         ensures holds { H.tells_image → IfOk result (λ store. Holds (H.now host.new).image (work_of store)) }
         ensures image { H.tells_image → OnOk result ((H.now host.new).image ≡ settled_image (H.now host.old).image) }
         ensures bounds { IfOk result (λ store. store.journal.bounds ≡ b.now) }
@@ -98,8 +98,8 @@ impl Store {
         ensures rest { KeepsButStore (H.now host.old) (H.now host.new) }
 
         ensures stops { H.tells_image → BeginsQuiet H.clock H.stopped host.old (H.now host.old).image
-            → (targets : List (List ℕ × ℤ)) → opens (H.now host.old).image ≡ Ok targets
-            → Leaves H.clock H.stopped host.old host.new (λ c s. (s ≡ (H.now host.old).said) × (opens c ≡ Ok targets)) }
+            → (kept : Workspace) → opens (H.now host.old).image ≡ Ok kept
+            → Leaves H.clock H.stopped host.old host.new (λ c s. (s ≡ (H.now host.old).said) × (opens c ≡ Ok kept)) }
         ensures quiet { H.tells_image → BeginsQuiet H.clock H.stopped host.old (H.now host.old).image
             → OnOk result (IsQuiet H.clock H.stopped host.new (H.now host.new).image) }
     {
@@ -115,8 +115,8 @@ impl Store {
         }
     }
 
-    /// Gives a target its value, in the store first. All memory is taken before the first write; after a fault of
-    /// the store or want of memory the store is of no use.
+    /// Gives a target its value: in the map, then in the store. All memory is taken before the first write. After
+    /// a fault of the store, or want of memory, this store is not used again.
     pub(crate) fn put<H: Host>(
         &mut self,
         alloc: Global,

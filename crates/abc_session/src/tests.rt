@@ -1,7 +1,7 @@
 //! The session over a host in memory: what is said and kept, bad words and images, bounds, and calls that fail.
 use crate::{
-    COMPLETE, INPUT_FAULT, INPUT_TOO_LONG, NOT_A_STORE, SINK_FAULT, STORE_FAULT, USAGE, run,
-    run_within,
+    COMPLETE, INPUT_FAULT, INPUT_TOO_LONG, NOT_A_STORE, SINK_FAULT, STORE_FAULT, USAGE,
+    items_are_steady, run, run_within, statuses_are_numbered,
 };
 use abc_journal::Bounds;
 use abc_outside::{CallKind, MemoryHost};
@@ -11,9 +11,9 @@ use std::test::Fail;
 const WORDS: [&str; 1] = ["my.store"];
 
 const BOUNDS: Bounds = Bounds {
-    input: 1000,
-    image: 1000,
-    checkpoint: 1000,
+    input: 5000,
+    image: 5000,
+    checkpoint: 5000,
 };
 
 // The head of a store with its one open slot: the magic, then the slot of generation 1, whose region starts at 64.
@@ -38,10 +38,44 @@ fn store_of(alloc: Global, region: &[u8]) -> Result<Vec<u8>, AllocError> {
     Ok(image)
 }
 
+/// A store whose only record has this payload.
+fn store_of_payload(alloc: Global, payload: &[u8]) -> Result<Vec<u8>, AllocError> {
+    let mut image = store_of(alloc, &[1])?;
+    image.extend_from_slice(&(payload.len() as u64).to_be_bytes())?;
+    image.extend_from_slice(payload)?;
+    image.push(0)?;
+    Ok(image)
+}
+
 fn host_of(alloc: Global, image: &[u8], input: &str) -> Result<MemoryHost, AllocError> {
     let image = image.to_vec(alloc)?;
     let input = input.as_bytes().to_vec(alloc)?;
     Ok(MemoryHost::new(alloc, image, input))
+}
+
+/// What a run leaves.
+#[derive(Drop)]
+struct Remains {
+    status: u8,
+    said: Vec<u8>,
+    image: Vec<u8>,
+}
+
+/// Runs over a new host.
+fn ran(
+    alloc: Global,
+    words: &[&str],
+    image: &[u8],
+    input: &str,
+    bounds: &Bounds,
+) -> Result<Remains, AllocError> {
+    let mut host = host_of(alloc, image, input)?;
+    let status = run_within(alloc, words, &mut host, bounds);
+    Ok(Remains {
+        status,
+        said: host.said().to_vec(alloc)?,
+        image: host.image().to_vec(alloc)?,
+    })
 }
 
 struct Session {
@@ -51,7 +85,7 @@ struct Session {
     size: usize,
 }
 
-const SESSIONS: [Session; 12] = [
+const SESSIONS: [Session; 14] = [
     Session {
         name: "no lines",
         input: "",
@@ -95,6 +129,18 @@ const SESSIONS: [Session; 12] = [
         size: 65,
     },
     Session {
+        name: "a CR before LF or the end is no byte of a line",
+        input: "\r\nPUT 5 IN x\r\n  \r\nWRITE x\r",
+        said: "[1] ok\n5\n[2] ok\n",
+        size: 101,
+    },
+    Session {
+        name: "another CR is",
+        input: "WRITE 1\r\r\nWRITE\r1\n",
+        said: "[1] fault line 1: NotYet\n[2] fault line 1: NotYet\n",
+        size: 65,
+    },
+    Session {
         name: "more spaces",
         input: "PUT  1   IN x \nWRITE   x  \n",
         said: "[1] ok\n1\n[2] ok\n",
@@ -129,6 +175,8 @@ const SESSIONS: [Session; 12] = [
 #[test]
 fn ample_memory_is_enough(rt: HostRuntime) -> Result<(), Fail> {
     let alloc = rt.alloc();
+    items_are_steady();
+    statuses_are_numbered();
     for row in &SESSIONS {
         let mut host = host_of(alloc, &[], row.input)?;
         let status = run(alloc, &WORDS, &mut host);
@@ -140,91 +188,104 @@ fn ample_memory_is_enough(rt: HostRuntime) -> Result<(), Fail> {
     Ok(())
 }
 
-#[test]
-fn a_second_run_says_the_value_again(rt: HostRuntime) -> Result<(), Fail> {
-    let alloc = rt.alloc();
-    let mut first = host_of(alloc, &[], "PUT 41 IN x\nWRITE x\n")?;
-    run(alloc, &WORDS, &mut first);
-    let mut second = host_of(alloc, first.image(), "WRITE x\n")?;
-    assert_eq!(rt; run(alloc, &WORDS, &mut second), COMPLETE);
-    assert_eq!(rt; second.said(), "41\n[1] ok\n".as_bytes());
-    assert_eq!(rt; second.image(), first.image());
-    Ok(())
+struct Bounded {
+    words: &'static [&'static str],
+    input: &'static str,
+    most_input: u64,
+    most_image: u64,
+    status: u8,
+    said: &'static str,
+    size: usize,
 }
 
-#[test]
-fn an_image_of_at_most_65_bytes_becomes_the_fresh_one(rt: HostRuntime) -> Result<(), Fail> {
-    let alloc = rt.alloc();
-    let fresh = store_of(alloc, &NO_RECORDS)?;
-    for size in [0, 1, 64, 65] {
-        let mut host = host_of(alloc, &[255; 65][..size], "")?;
-        assert_eq!(rt; run(alloc, &WORDS, &mut host), COMPLETE);
-        assert_eq!(rt; host.image(), fresh.as_slice());
-    }
-    Ok(())
-}
+const BOUNDED: [Bounded; 8] = [
+    Bounded {
+        words: &WORDS,
+        input: "WRITE 1",
+        most_input: 8,
+        most_image: 1000,
+        status: COMPLETE,
+        said: "1\n[1] ok\n",
+        size: 65,
+    },
+    Bounded {
+        words: &WORDS,
+        input: "WRITE 1\n",
+        most_input: 8,
+        most_image: 1000,
+        status: INPUT_TOO_LONG,
+        said: "1\n[1] ok\n",
+        size: 65,
+    },
+    Bounded {
+        words: &WORDS,
+        input: "WRITE 12",
+        most_input: 8,
+        most_image: 1000,
+        status: INPUT_TOO_LONG,
+        said: "",
+        size: 65,
+    },
+    Bounded {
+        words: &WORDS,
+        input: "\n\n\n\n\n\n\n\nWRITE 1\n",
+        most_input: 8,
+        most_image: 1000,
+        status: INPUT_TOO_LONG,
+        said: "",
+        size: 65,
+    },
+    Bounded {
+        words: &WORDS,
+        input: "PUT 1 IN x\nPUT 2 IN y\nWRITE x\n",
+        most_input: 1000,
+        most_image: 101,
+        status: COMPLETE,
+        said: "[1] ok\n[2] fault line 1: StoreFull\n1\n[3] ok\n",
+        size: 101,
+    },
+    Bounded {
+        words: &[],
+        input: "WRITE 1\n",
+        most_input: 1000,
+        most_image: 1000,
+        status: USAGE,
+        said: "",
+        size: 0,
+    },
+    Bounded {
+        words: &["my.store", "other"],
+        input: "WRITE 1\n",
+        most_input: 1000,
+        most_image: 1000,
+        status: USAGE,
+        said: "",
+        size: 0,
+    },
+    Bounded {
+        words: &["-store"],
+        input: "WRITE 1\n",
+        most_input: 1000,
+        most_image: 1000,
+        status: USAGE,
+        said: "",
+        size: 0,
+    },
+];
 
 #[test]
-fn what_is_no_store_is_left_alone(rt: HostRuntime) -> Result<(), Fail> {
+fn words_and_bounds_are_kept_to(rt: HostRuntime) -> Result<(), Fail> {
     let alloc = rt.alloc();
-    let mut host = host_of(alloc, &[0; 66], "WRITE 1\n")?;
-    assert_eq!(rt; run(alloc, &WORDS, &mut host), NOT_A_STORE);
-    assert_eq!(rt; host.said().len(), 0);
-    assert_eq!(rt; host.image(), [0; 66].as_slice());
-    Ok(())
-}
-
-#[test]
-fn the_bytes_of_a_put(rt: HostRuntime) -> Result<(), Fail> {
-    let alloc = rt.alloc();
-    let mut host = host_of(alloc, &[], "PUT 1 IN x\n")?;
-    run(alloc, &WORDS, &mut host);
-    let image = store_of(alloc, &PUT_1_IN_X)?;
-    assert_eq!(rt; host.image(), image.as_slice());
-    Ok(())
-}
-
-#[test]
-fn words_that_name_no_store_change_nothing(rt: HostRuntime) -> Result<(), Fail> {
-    let alloc = rt.alloc();
-    let mut host = host_of(alloc, &[], "WRITE 1\n")?;
-    for words in [&[] as &[&str], &["my.store", "other"], &["-store"]] {
-        assert_eq!(rt; run(alloc, words, &mut host), USAGE);
-    }
-    assert_eq!(rt; host.said().len(), 0);
-    assert_eq!(rt; host.image().len(), 0);
-    Ok(())
-}
-
-#[test]
-fn a_full_store_stays_and_serves(rt: HostRuntime) -> Result<(), Fail> {
-    let alloc = rt.alloc();
-    let bounds = Bounds {
-        image: 101,
-        ..BOUNDS
-    };
-    let mut host = host_of(alloc, &[], "PUT 1 IN x\nPUT 2 IN y\nWRITE x\n")?;
-    assert_eq!(rt; run_within(alloc, &WORDS, &mut host, &bounds), COMPLETE);
-    let said = "[1] ok\n[2] fault line 1: StoreFull\n1\n[3] ok\n";
-    assert_eq!(rt; host.said(), said.as_bytes());
-    assert_eq!(rt; host.image().len(), 101);
-    Ok(())
-}
-
-#[test]
-fn an_input_as_long_as_its_bound_has_no_end(rt: HostRuntime) -> Result<(), Fail> {
-    let alloc = rt.alloc();
-    for (input, status, said) in [
-        ("WRITE 1", COMPLETE, "1\n[1] ok\n"),
-        ("WRITE 1\n", INPUT_TOO_LONG, "1\n[1] ok\n"),
-        ("WRITE 12", INPUT_TOO_LONG, ""),
-        ("\n\n\n\n\n\n\n\nWRITE 1\n", INPUT_TOO_LONG, ""),
-    ] {
-        let bounds = Bounds { input: 8, ..BOUNDS };
-        let mut host = host_of(alloc, &[], input)?;
-        let ended = run_within(alloc, &WORDS, &mut host, &bounds);
-        assert_eq!(rt; ended, status, "{}", input);
-        assert_eq!(rt; host.said(), said.as_bytes(), "{}", input);
+    for row in &BOUNDED {
+        let bounds = Bounds {
+            input: row.most_input,
+            image: row.most_image,
+            checkpoint: 1000,
+        };
+        let left = ran(alloc, row.words, &[], row.input, &bounds)?;
+        assert_eq!(rt; left.status, row.status, "{}", row.input);
+        assert_eq!(rt; left.said.as_slice(), row.said.as_bytes(), "{}", row.input);
+        assert_eq!(rt; left.image.len(), row.size, "{}", row.input);
     }
     Ok(())
 }
@@ -318,11 +379,15 @@ fn a_call_that_fails_ends_the_run(rt: HostRuntime) -> Result<(), Fail> {
         let mut host = host_of(alloc, &[], row.input)?;
         host.say_at_most(1);
         host.fail_at(row.kind, row.n)?;
-        assert_eq!(rt; run(alloc, &WORDS, &mut host), row.status, "{}", row.name);
+        assert_eq!(rt;
+            run_within(alloc, &WORDS, &mut host, &BOUNDS),
+            row.status,
+            "{}",
+            row.name
+        );
         assert_eq!(rt; host.said(), row.said.as_bytes(), "{}", row.name);
-        let mut again = host_of(alloc, host.image(), "WRITE x\n")?;
-        run(alloc, &WORDS, &mut again);
-        assert_eq!(rt; again.said(), row.found.as_bytes(), "{}", row.name);
+        let again = ran(alloc, &WORDS, host.image(), "WRITE x\n", &BOUNDS)?;
+        assert_eq!(rt; again.said.as_slice(), row.found.as_bytes(), "{}", row.name);
     }
     Ok(())
 }
@@ -330,13 +395,16 @@ fn a_call_that_fails_ends_the_run(rt: HostRuntime) -> Result<(), Fail> {
 struct Payload {
     name: &'static str,
     bytes: &'static [u8],
+    // so many letters more in the name, and the bytes of a number behind them
+    letters: usize,
     status: u8,
 }
 
-const PAYLOADS: [Payload; 8] = [
+const PAYLOADS: [Payload; 10] = [
     Payload {
         name: "no changes",
         bytes: &[0, 0, 0, 0],
+        letters: 0,
         status: COMPLETE,
     },
     Payload {
@@ -345,21 +413,25 @@ const PAYLOADS: [Payload; 8] = [
             0, 0, 0, 1, 1, 0, 0, 0, 3, 0x6d, 0x69, 0x6e, 0, 255, 255, 255, 255, 255, 255, 255, 255,
             255, 255, 255, 255, 255, 255, 255, 255,
         ],
+        letters: 0,
         status: COMPLETE,
     },
     Payload {
         name: "no count",
         bytes: &[0, 0, 0],
+        letters: 0,
         status: NOT_A_STORE,
     },
     Payload {
         name: "fewer changes than their count",
         bytes: &[0, 0, 0, 1],
+        letters: 0,
         status: NOT_A_STORE,
     },
     Payload {
         name: "a byte behind the changes",
         bytes: &[0, 0, 0, 0, 0],
+        letters: 0,
         status: NOT_A_STORE,
     },
     Payload {
@@ -367,6 +439,7 @@ const PAYLOADS: [Payload; 8] = [
         bytes: &[
             0, 0, 0, 1, 1, 0, 0, 0, 1, 0x78, 0, 128, 0, 0, 0, 0, 0, 0, 0, 0, 0, 0, 0, 0, 0, 0, 0,
         ],
+        letters: 0,
         status: NOT_A_STORE,
     },
     Payload {
@@ -374,6 +447,7 @@ const PAYLOADS: [Payload; 8] = [
         bytes: &[
             0, 0, 0, 1, 1, 0, 0, 0, 1, 0x58, 0, 0, 0, 0, 0, 0, 0, 0, 0, 0, 0, 0, 0, 0, 0, 0, 0,
         ],
+        letters: 0,
         status: NOT_A_STORE,
     },
     Payload {
@@ -381,42 +455,61 @@ const PAYLOADS: [Payload; 8] = [
         bytes: &[
             0, 0, 0, 1, 1, 0, 0, 0, 1, 0x78, 1, 0, 0, 0, 0, 0, 0, 0, 0, 0, 0, 0, 0, 0, 0, 0, 0,
         ],
+        letters: 0,
+        status: NOT_A_STORE,
+    },
+    Payload {
+        name: "a name as long as a line may be",
+        bytes: &[0, 0, 0, 1, 1, 0, 0, 0x10, 0],
+        letters: 4_096,
+        status: COMPLETE,
+    },
+    Payload {
+        name: "a longer one",
+        bytes: &[0, 0, 0, 1, 1, 0, 0, 0x10, 1],
+        letters: 4_097,
         status: NOT_A_STORE,
     },
 ];
 
-/// A store whose only record has this payload.
-fn store_of_payload(alloc: Global, payload: &[u8]) -> Result<Vec<u8>, AllocError> {
-    let mut image = store_of(alloc, &[1])?;
-    image.extend_from_slice(&(payload.len() as u64).to_be_bytes())?;
-    image.extend_from_slice(payload)?;
-    image.push(0)?;
-    Ok(image)
+/// A store whose only record has the payload of the row.
+fn store_of_row(alloc: Global, row: &Payload) -> Result<Vec<u8>, AllocError> {
+    let mut payload = row.bytes.to_vec(alloc)?;
+    if row.letters > 0 {
+        payload.resize(payload.len().saturating_add(row.letters), b'a')?;
+        payload.resize(payload.len().saturating_add(17), 0)?;
+    }
+    store_of_payload(alloc, &payload)
 }
 
 #[test]
 fn a_payload_is_spelled_or_the_image_is_no_store(rt: HostRuntime) -> Result<(), Fail> {
     let alloc = rt.alloc();
     for row in &PAYLOADS {
-        let image = store_of_payload(alloc, row.bytes)?;
-        let mut host = host_of(alloc, &image, "")?;
-        assert_eq!(rt; run(alloc, &WORDS, &mut host), row.status, "{}", row.name);
-        assert_eq!(rt; host.image(), image.as_slice(), "{}", row.name);
+        let image = store_of_row(alloc, row)?;
+        let left = ran(alloc, &WORDS, &image, "", &BOUNDS)?;
+        assert_eq!(rt; left.status, row.status, "{}", row.name);
+        assert_eq!(rt; left.image, image, "{}", row.name);
     }
     Ok(())
 }
 
 #[test]
-fn a_kept_name_is_no_longer_than_a_line(rt: HostRuntime) -> Result<(), Fail> {
+fn what_stands_in_the_store(rt: HostRuntime) -> Result<(), Fail> {
     let alloc = rt.alloc();
-    for (length, status) in [(4_096_u32, COMPLETE), (4_097, NOT_A_STORE)] {
-        let mut payload = [0, 0, 0, 1, 1].to_vec(alloc)?;
-        payload.extend_from_slice(&length.to_be_bytes())?;
-        payload.resize(9 + length as usize, b'a')?;
-        payload.resize(26 + length as usize, 0)?;
-        let image = store_of_payload(alloc, &payload)?;
-        let mut host = host_of(alloc, &image, "")?;
-        assert_eq!(rt; run(alloc, &WORDS, &mut host), status);
+    let fresh = store_of(alloc, &NO_RECORDS)?;
+    for size in [0, 1, 64, 65] {
+        let left = ran(alloc, &WORDS, &[255; 65][..size], "", &BOUNDS)?;
+        assert_eq!(rt; left.image, fresh);
     }
+    let other = ran(alloc, &WORDS, &[0; 66], "WRITE 1\n", &BOUNDS)?;
+    assert_eq!(rt; other.status, NOT_A_STORE);
+    assert_eq!(rt; other.said.len(), 0);
+    assert_eq!(rt; other.image.as_slice(), [0; 66].as_slice());
+    let put = ran(alloc, &WORDS, &[], "PUT 1 IN x\n", &BOUNDS)?;
+    assert_eq!(rt; put.image, store_of(alloc, &PUT_1_IN_X)?);
+    let again = ran(alloc, &WORDS, &put.image, "WRITE x\n", &BOUNDS)?;
+    assert_eq!(rt; again.said.as_slice(), "1\n[1] ok\n".as_bytes());
+    assert_eq!(rt; again.image, put.image);
     Ok(())
 }

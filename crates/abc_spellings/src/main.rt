@@ -1,17 +1,21 @@
 //! Reads own names and a line of tokens, a line each with `:` between the two, and prints in one line which expression, which
-//! address, which names of an address and which test the tokens spell, or why they spell none.
+//! address, which names of an address and which test the tokens spell, or why they spell none. Behind a `!` in front of the names
+//! it prints what a parser asks besides.
 #![tactic(auto)]
 
+mod readings;
 mod show;
 
 ghost use Rattle.std.specs.Prelude.{◌≤◌, length};
 ghost use Rattle.abc_tokens.specs.Tokens.{AreTokens};
 
+use abc_expressions::lexemes_of;
 use abc_formula::{FormulaFault, address, address_names, expression, test};
 use abc_num::limits::MOST_LINE_BYTES;
 use abc_num::{Names, OutOfMemory, Text};
 use abc_tokens::{Token, TokenFault, tokens};
 use abc_tree::{Expr, Test};
+use readings::print_readings;
 use show::{print_address_names, print_expression, print_test};
 use std::io;
 use thiserror::Error;
@@ -33,8 +37,17 @@ impl From<OutOfMemory> for Fault {
     }
 }
 
+/// What is asked of a line.
+#[derive(Clone, Copy, PartialEq, Eq, Debug)]
+enum Asked {
+    /// What its tokens spell.
+    Trees,
+    /// What a parser asks besides.
+    Readings,
+}
+
 /// Prints why tokens spell nothing. Want of memory ends the program.
-fn refuse(rt: &HostRuntime, fault: FormulaFault) -> Result<(), Fault> {
+pub(crate) fn refuse(rt: &HostRuntime, fault: FormulaFault) -> Result<(), Fault> {
     match fault {
         FormulaFault::BadCommand => print!(rt; "BadCommand")?,
         FormulaFault::TooMany => print!(rt; "TooMany")?,
@@ -74,14 +87,25 @@ fn answer_tokens(rt: &HostRuntime, own: &Names, line: &[u8], toks: &[Token]) -> 
     Ok(())
 }
 
-/// Prints what the line spells, with these own names.
-fn answer_line(rt: &HostRuntime, own: &Names, line: &[u8]) -> Result<(), Fault> {
+/// Prints what a parser asks of the tokens of the line besides.
+fn answer_readings(rt: &HostRuntime, own: &Names, line: &[u8], toks: &[Token]) -> Result<(), Fault>
+    requires { AreTokens line.now toks.now }
+{
+    let lexemes = lexemes_of(rt.alloc(), line, toks)?;
+    print_readings(rt, own, lexemes.as_slice())
+}
+
+/// Prints what is asked of the line, with these own names.
+fn answer_line(rt: &HostRuntime, own: &Names, line: &[u8], asked: Asked) -> Result<(), Fault> {
     if line.len() > MOST_LINE_BYTES {
         println!(rt; "LineTooLong")?;
         return Ok(());
     }
     match tokens(rt.alloc(), line) {
-        Ok(toks) => answer_tokens(rt, own, line, &toks),
+        Ok(toks) => match asked {
+            Asked::Trees => answer_tokens(rt, own, line, &toks),
+            Asked::Readings => answer_readings(rt, own, line, &toks),
+        },
         Err(TokenFault::BadByte) => Ok(println!(rt; "BadByte")?),
         Err(TokenFault::OpenText) => Ok(println!(rt; "OpenText")?),
         Err(TokenFault::BadNumber) => Ok(println!(rt; "BadNumber")?),
@@ -101,9 +125,12 @@ fn names_in(rt: &HostRuntime, text: &str) -> Result<Names, Fault> {
 }
 
 fn answer(rt: &HostRuntime, row: &str) -> Result<(), Fault> {
-    match row.split_once(':') {
-        Some((names, line)) => answer_line(rt, &names_in(rt, names)?, line.as_bytes()),
-        None => Ok(println!(rt; "NoNames")?),
+    let Some((names, line)) = row.split_once(':') else {
+        return Ok(println!(rt; "NoNames")?);
+    };
+    match names.strip_prefix('!') {
+        Some(names) => answer_line(rt, &names_in(rt, names)?, line.as_bytes(), Asked::Readings),
+        None => answer_line(rt, &names_in(rt, names)?, line.as_bytes(), Asked::Trees),
     }
 }
 

@@ -202,7 +202,7 @@ fn print_bounds(rt: &HostRuntime, bounds: &[Bound]) -> Result<(), Fault> {
 }
 
 #[cycle(bound)]
-fn print_bound(rt: &HostRuntime, bound: &Bound) -> Result<(), Fault> {
+pub(crate) fn print_bound(rt: &HostRuntime, bound: &Bound) -> Result<(), Fault> {
     match bound {
         Bound::One(name) => print_name(rt, *name),
         Bound::Several(bounds) => {

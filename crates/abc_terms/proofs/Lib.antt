@@ -1,3 +1,5 @@
+pub mod Below
 pub mod Grounds
 pub mod Terms
-pub mod Regularity
+pub mod Mending
+pub mod Renaming

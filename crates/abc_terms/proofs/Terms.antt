@@ -99,6 +99,21 @@ all_variables : (n : ℕ) (xs : List VarId) → All (λ a. a.0 < n) xs → All (
 all_variables n [] h = All-nil (IsVariable n)
 all_variables n (x ∷ xs) h = All-cons (IsVariable n) (term.Var x) (map term.Var xs) (subst (λ f. IsVariableForm n f) (sym (out_var x)) (All-head (λ a. a.0 < n) x xs h)) (all_variables n xs (All-tail (λ a. a.0 < n) x xs h))
 
+pub one_variable : (n : ℕ) (a : VarId) → a.0 < n → IsVariable n (term.Var a)
+one_variable n a h = subst (λ f. IsVariableForm n f) (sym (out_var a)) h
+
+pub number_node : (n : ℕ) → IsNode n term.Number
+number_node n = subst (λ f. IsNodeForm n f) (sym (ap out-Term (sym term.rolls-Number) ∙ out-roll-Term Term-F.Number)) tt
+
+pub text_node : (n : ℕ) → IsNode n term.Text
+text_node n = subst (λ f. IsNodeForm n f) (sym (ap out-Term (sym term.rolls-Text) ∙ out-roll-Term Term-F.Text)) tt
+
+pub list_node : (n : ℕ) (a : VarId) → a.0 < n → IsNode n (term.List (term.Var a))
+list_node n a h = subst (λ f. IsNodeForm n f) (sym (out_list (term.Var a))) (subst (λ f. IsVariableForm n f) (sym (out_var a)) h)
+
+pub table_node : (n : ℕ) (k a : VarId) → k.0 < n → a.0 < n → IsNode n (term.Table (term.Var k) (term.Var a))
+table_node n k a g h = subst (λ f. IsNodeForm n f) (sym (out_table (term.Var k) (term.Var a))) (subst (λ f. IsVariableForm n f) (sym (out_var k)) g, subst (λ f. IsVariableForm n f) (sym (out_var a)) h)
+
 pub compound_node : (n : ℕ) (xs : List VarId) → 2 ≤ length xs → All (λ a. a.0 < n) xs → IsNode n (term.Compound (map term.Var xs))
 compound_node n xs two h = subst (λ f. IsNodeForm n f) (sym (out_compound (map term.Var xs))) (rw length-map two, all_variables n xs h)
 

@@ -1,4 +1,4 @@
 pub mod Demands
 pub mod Nodes
+pub mod Renamed
 pub mod Sizes
-pub mod Regular

@@ -1,11 +1,17 @@
 -- Terms whose parts are variables, and the variables that terms and demands name.
 use Rattle.std.specs.Prelude.{ℕ, ◌<◌, ◌≤◌, List, [], ◌∷◌, ◌++◌, length}
 use Rattle.std.specs.List.{All, Contains, concat}
+use Rattle.abc_terms.specs.declared.term.VarId.{VarId}
 use Rattle.abc_terms.specs.declared.term.Term.{Term, fold-Term}
 use Rattle.abc_terms.specs.declared.term.Term.TheOpen.{Term-F}
 use Rattle.abc_terms.specs.declared.term.Term.TheViews.{out-Term}
 use Rattle.abc_terms.specs.declared.demand.Demand.{Demand}
 use Rattle.abc_terms.specs.declared.demand.Demand.TheVariants as demand
+
+-- these are some of the first n variables
+abbrev pub AreIn : ℕ → List VarId → Type 0
+AreIn n [] = Unit {0}
+AreIn n (x ∷ xs) = (x.0 < n) × AreIn n xs
 
 -- a term of this outer form is one of the first n variables
 abbrev pub IsVariableForm : ℕ → Term-F Term → Type 0

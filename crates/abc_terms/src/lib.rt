@@ -2,7 +2,9 @@
 #![tactic(auto)]
 
 mod demand;
+mod laws;
 mod term;
 
 pub use demand::Demand;
-pub use term::{Term, Terms, VarId};
+pub use laws::{demands_below, renamed_demands};
+pub use term::{Term, Terms, VarId, Vars};

@@ -1,7 +1,8 @@
 //! Types in which variables may stand.
 ghost use Rattle.std.specs.Prelude.{◌≡◌, ℕ, ◌<◌, ◌≤◌, length, map, IfOk};
 ghost use Rattle.std.specs.List.{All};
-ghost use Rattle.abc_terms.specs.Nodes.{IsNode};
+ghost use Rattle.abc_terms.specs.Nodes.{IsVariable, IsNode};
+ghost use Rattle.abc_terms.specs.Renamed.{renamed_term, number_in};
 
 use abc_num::{Boxed, Items, OutOfMemory};
 use std::alloc::Global;
@@ -35,6 +36,9 @@ pub enum Term {
 /// The types of the fields of a compound, in their order.
 pub type Terms = Items<Term>;
 
+/// Variables, in their order.
+pub type Vars = Items<VarId>;
+
 impl Term {
     /// A list of this variable.
     pub fn list_of(alloc: Global, element: VarId) -> Result<Term, OutOfMemory>
@@ -66,4 +70,59 @@ impl Term {
         }
         Ok(Term::Compound(terms))
     }
+
+    /// The variable that the term is.
+    pub fn variable(&self) -> VarId
+        requires { (n : ℕ) × IsVariable n self.now }
+        ensures { self.now ≡ Term.Var result }
+    {
+        match self {
+            Term::Var(a) => *a,
+            Term::Number => unreachable!(),
+            Term::Text => unreachable!(),
+            Term::Compound(_) => unreachable!(),
+            Term::List(_) => unreachable!(),
+            Term::Table(_, _) => unreachable!(),
+        }
+    }
+
+    /// The term, whose parts are variables, with the variable of number i in `to` in place of each variable i.
+    pub fn renamed(&self, alloc: Global, to: &[VarId]) -> Result<Term, OutOfMemory>
+        requires { IsNode (length to.now) self.now }
+        ensures { IfOk result (λ t. t ≡ renamed_term (number_in to.now) self.now) }
+    {
+        match self {
+            Term::Var(a) => Ok(Term::Var(to[a.index()])),
+            Term::Number => Ok(Term::Number),
+            Term::Text => Ok(Term::Text),
+            Term::Compound(fields) => renamed_compound(alloc, fields.as_slice(), to),
+            Term::List(element) => Term::list_of(alloc, renamed_part(element.get(), to)),
+            Term::Table(key, associate) => Term::table_of(
+                alloc,
+                renamed_part(key.get(), to),
+                renamed_part(associate.get(), to),
+            ),
+        }
+    }
+}
+
+/// The variable in place of the one that the term is.
+fn renamed_part(part: &Term, to: &[VarId]) -> VarId
+    requires { IsVariable (length to.now) part.now }
+    ensures { Term.Var result ≡ renamed_term (number_in to.now) part.now }
+{
+    let a = part.variable();
+    to[a.index()]
+}
+
+/// The compound of the variables in place of these.
+fn renamed_compound(alloc: Global, fields: &[Term], to: &[VarId]) -> Result<Term, OutOfMemory>
+    requires { All (IsVariable (length to.now)) fields.now }
+    ensures { IfOk result (λ t. t ≡ Term.Compound (map (renamed_term (number_in to.now)) fields.now)) }
+{
+    let mut terms = Terms::new(alloc);
+    for at in 0..fields.len() {
+        terms.push(Term::Var(renamed_part(&fields[at], to)))?;
+    }
+    Ok(Term::Compound(terms))
 }

@@ -1,3 +1,4 @@
+-- Lemmas on tokens.
 mod Tails
 pub mod NumberTokens
 mod SignTokens
@@ -17,3 +18,6 @@ mod EndsSteps
 mod ShapeLaws
 pub mod LongestTexts
 pub mod Conversions
+mod Values
+mod ReadLines
+pub mod WordKinds

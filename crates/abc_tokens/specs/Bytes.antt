@@ -1,9 +1,7 @@
 -- The bytes that tokens are made of.
 use Rattle.std.specs.Prelude.{ℕ, Bool, false, ◌&&◌, ◌||◌, ◌==◌, nat_le, List, [], ◌∷◌}
-
 -- a character of a line, 32 to 126
-abbrev pub is_character : ℕ → Bool
-is_character b = nat_le 32 b && nat_le b 126
+pub use Rattle.abc_num.specs.Characters.{is_character}
 
 -- a to z
 abbrev pub is_small : ℕ → Bool

@@ -1,3 +1,4 @@
+-- What the tokens of a line and its shape are.
 pub mod Bytes
 pub mod inner
 pub mod Words
@@ -5,3 +6,6 @@ pub mod Texts
 pub mod Tokens
 pub mod Shape
 pub mod Scanned
+pub mod Kinds
+pub mod Values
+pub mod ReadLine

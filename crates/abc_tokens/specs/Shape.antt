@@ -106,5 +106,17 @@ abbrev pub tokens_found : Found → List Token
 tokens_found None = []
 tokens_found (Some found) = found.0
 
+-- the tokens of a line's text, read loosely
+abbrev pub loose_tokens : List ℕ → List Token
+loose_tokens line = tokens_found (scanned true (length (text_of line)) (text_of line) 0)
+
 abbrev pub shape_of : List ℕ → Shape
-shape_of line = shape_by line (tokens_found (scanned true (length (text_of line)) (text_of line) 0))
+shape_of line = shape_by line (loose_tokens line)
+
+-- with these tokens, the first one of the line is spelled so
+abbrev pub is_first_by : List ℕ → List Token → List ℕ → Bool
+is_first_by line ts word = is_spelled (text_of line) (slice_get ts 0) word
+
+-- the first token of the line's text, read loosely, is spelled so
+abbrev pub is_first : List ℕ → List ℕ → Bool
+is_first line word = is_first_by line (loose_tokens line) word

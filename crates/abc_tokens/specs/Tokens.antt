@@ -1,6 +1,5 @@
 -- The tokens of a line, and its faults.
 use Rattle.std.specs.Prelude.{◌≡◌, ◌≢◌, ℕ, ◌+◌, ◌-◌, pos, Bool, true, false, List, [], ◌∷◌, ◌++◌, length, take, drop, All, Any}
-use Rattle.std.specs.List.{list_all}
 use Rattle.abc_num.specs.Literal.{literal_numerator, literal_denominator}
 use Rattle.abc_num.specs.Number.{Fraction}
 use Rattle.abc_num.specs.Ratio.{HasValue, IsNoNumber}
@@ -9,7 +8,8 @@ use Rattle.abc_tokens.specs.declared.kinds.TokenFault.{TokenFault}
 use Rattle.abc_tokens.specs.declared.kinds.TokenFault.TheVariants.{BadByte, OpenText, BadNumber, Memory}
 use Rattle.abc_tokens.specs.declared.kinds.TokenKind.{TokenKind}
 use Rattle.abc_tokens.specs.declared.kinds.TokenKind.TheVariants as kind
-use Rattle.abc_tokens.specs.Bytes.{is_character, is_quote, space, backslash}
+use Rattle.abc_num.specs.Characters.{are_characters}
+use Rattle.abc_tokens.specs.Bytes.{is_quote, space, backslash}
 use Rattle.abc_tokens.specs.Words.{IsLongest, BeginsNone, number_of}
 use Rattle.abc_tokens.specs.Texts.{Closes}
 
@@ -53,7 +53,7 @@ IsBadNumber n = IsNoNumber (pos (literal_numerator n)) (pos (literal_denominator
 
 -- each byte of the line is a character, those of a comment too
 abbrev pub has_characters : List ℕ → Bool
-has_characters line = list_all is_character line
+has_characters line = are_characters line
 
 -- these are the tokens of a line without a fault, and no others are
 pub record AreTokens (line : List ℕ) (ts : List Token) : Type 0 where

@@ -10,9 +10,12 @@ mod texts;
 mod words;
 
 pub use kinds::{First, Shape, Token, TokenFault, TokenKind};
-pub use laws::{conversion_tokens, longest_text, one_reading, one_shape, placed_tokens};
+pub use laws::{
+    computed_tokens, computed_values, computed_words, conversion_tokens, longest_text, one_reading,
+    one_shape, placed_tokens, shape_by_tokens, spelled_tokens,
+};
 pub use scan::tokens;
-pub use shaping::shape;
+pub use shaping::{is_first, is_reserved, shape};
 
 #[cfg(test)]
 mod tests;

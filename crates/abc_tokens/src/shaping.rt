@@ -1,9 +1,10 @@
 //! The shape of a line.
-ghost use Rattle.std.specs.Prelude.{◌≡◌, ◌≤◌, ◌+◌, ◌*◌, ◌∷◌, ◌++◌, [], List, ℕ, length, drop, IfSome};
+ghost use Rattle.std.specs.Prelude.{◌≡◌, ◌≤◌, ◌+◌, ◌*◌, ◌∷◌, ◌++◌, [], List, ℕ, true, length, drop, slice_get, IfSome};
 ghost use Rattle.abc_num.specs.declared.limits.TheConstants.{MOST_LINE_BYTES};
 ghost use Rattle.abc_tokens.specs.declared.kinds.Token.{Token};
-ghost use Rattle.abc_tokens.specs.Shape.{indentation, text_of, is_blank, begins_environment, is_spelled, is_reserved, names_refinement, is_refinement, beginning, shape_of, IsShape};
-ghost use Rattle.abc_tokens.specs.inner.Shapes.{IsWithin, AreEnds, EndsFound};
+ghost use Rattle.abc_tokens.specs.Shape.{indentation, text_of, is_blank, begins_environment, is_spelled, is_reserved, names_refinement, is_refinement, beginning, shape_of, IsShape, is_first, is_first_by};
+ghost use Rattle.abc_tokens.specs.Tokens.{Tokens};
+ghost use Rattle.abc_tokens.specs.inner.Shapes.{IsWithin, AreEnds, EndsFound, IsFirstFound};
 
 use crate::scan::{token_at, token_start};
 use crate::{First, Shape, Token, TokenKind};
@@ -24,6 +25,39 @@ pub fn shape(line: &[u8]) -> Shape
         ends_in_colon: is_spelled(text, ends.last, b":"),
         first: beginning(front.columns, text, ends.first, ends.second),
     }
+}
+
+/// Whether the first token of a line is spelled so, also where the line has a fault: a text that isn't closed is one
+/// token up to the end of the line. Reads no token behind the first, and takes no memory.
+pub fn is_first(line: &[u8], word: &[u8]) -> bool
+    requires { length line.now ≤ MOST_LINE_BYTES }
+    ensures by_tokens { (ts : List Token) (ns : List (List ℕ)) → Tokens true (length (text_of line.now)) (text_of line.now) ts ns
+        → result ≡ is_first_by line.now ts word.now }
+    ensures computed { result ≡ is_first line.now word.now }
+{
+    let front = front_of(line);
+    let text = &line[front.bytes..];
+    is_spelled(text, first_of(text), word)
+}
+
+/// The first token of a text, read loosely.
+fn first_of(text: &[u8]) -> Option<Token>
+    requires { length text.now ≤ MOST_LINE_BYTES }
+    ensures first { IsFirstFound text.now result }
+    ensures within { IfSome result (IsWithin text.now) }
+{
+    let Some(start) = token_start(text, 0) else {
+        return None;
+    };
+    let mut marks = [0u8; MOST_LINE_BYTES];
+    let Some(read) = token_at(text, start, &mut marks) else {
+        return Some(Token {
+            kind: TokenKind::Text,
+            start,
+            end: text.len(),
+        });
+    };
+    Some(read.token)
 }
 
 /// The spaces and tabs at the front of a line.
@@ -155,7 +189,8 @@ const RESERVED: [&[u8]; 21] = [
     b"SUCCEED", b"FAIL", b"SET",
 ];
 
-fn is_reserved(word: &[u8]) -> bool
+/// Whether the word is a keyword that begins no refinement and no command of one's own.
+pub fn is_reserved(word: &[u8]) -> bool
     ensures { result ≡ is_reserved word.now }
 {
     RESERVED.contains(&word)

@@ -175,7 +175,7 @@ fn is_single(b: u8) -> bool
     b"+-*/#^@|<=>()[]{},;:".contains(&b)
 }
 
-/// Whether a word that is a number has a value. Other words have nothing to judge.
+/// False for a number token whose value is no number; true for every other word.
 pub(crate) fn is_sound(bytes: &[u8], word: Word) -> bool
     requires { word_in_front bytes.now ≡ Some (word.kind, word.length) }
     ensures { Judges result (number_of word.kind (take word.length bytes.now)) }

@@ -1,11 +1,9 @@
 -- Calls that are added one after the other.
-use Rattle.std.proofs.Common.{◌≡◌, ◌<◌, ◌≤◌, ◌+◌, ℕ, zero, suc, List, [], ◌∷◌, ◌++◌, length, drop, map, refl, sym, ◌∙◌, ap, arith}
-use Rattle.std.specs.Prelude.{slice_index_or, filter, nat_le}
-use Rattle.std.proofs.lemmas.List.{map-append}
-use Rattle.std.proofs.lemmas.List.Elements.{filter-append}
-use Rattle.std.proofs.lemmas.Bool.{le-leb, lt-leb}
+use Rattle.std.proofs.Common.{◌≡◌, ◌<◌, ◌+◌, ℕ, List, [], ◌∷◌, ◌++◌, length, drop, map, refl, rules}
+use Rattle.std.specs.Prelude.{slice_index_or}
 use Rattle.abc_tree.specs.Lists.{flat}
-use Rattle.std.proofs.Common.{rules}
+use Rattle.abc_tree.specs.Lined.{Lined, at, upto}
+use Rattle.abc_tree.proofs.Adding as adding
 use Rattle.abc_tree.specs.declared.operations.Op.{Op}
 use Rattle.abc_tree.specs.declared.formulas.Expr.{Expr, the_lemmas}
 use Rattle.abc_tree.specs.declared.formulas.Expr.TheVariants as e
@@ -20,7 +18,7 @@ use Rattle.abc_tree.specs.declared.commands.Action.{Action}
 use Rattle.abc_tree.specs.declared.commands.Alternative.{Alternative, out-Alternative}
 use Rattle.abc_tree.specs.declared.commands.ActionNode.{the_lemmas as actions}
 use Rattle.abc_tree.specs.declared.commands.ActionNode.TheVariants as n
-use Rattle.abc_tree.specs.Calls.{Calls, calls_in, calls_in_fill, calls_in_pair, calls_in_test, Lined, at, upto, test_if_any, calls_in_node, calls_in_action, calls_in_alternative, with_call, with_calls}
+use Rattle.abc_tree.specs.Calls.{Calls, calls_in, calls_in_fill, calls_in_pair, calls_in_test, test_if_any, calls_in_node, calls_in_action, calls_in_alternative, with_call, with_calls}
 use Rattle.abc_tree.specs.declared.templates.Template.{Template}
 
 pub both_added : (found xs ys : Calls) → with_calls found (xs ++ ys) ≡ with_calls (with_calls found xs) ys
@@ -56,54 +54,20 @@ calls_or x y = search (rules, tests)
 pub calls_quantified : (q : Quantifier) (names : Bound) (x : Expr) (y : Test) → calls_in_test (t.Quantified q names x y) ≡ calls_in x ++ calls_in_test y
 calls_quantified q names x y = search (rules, tests)
 
--- two parts are added one after the other
+-- two parts of a tree, and one turn of a loop over a list
 pub two_added : (found mid now xs ys all : Calls) → all ≡ xs ++ ys → mid ≡ with_calls found xs → now ≡ with_calls mid ys → now ≡ with_calls found all
-two_added found mid now xs ys all is first last =
-    last ∙ ap (λ f. with_calls f ys) first ∙ sym (both_added found xs ys) ∙ ap (λ calls. with_calls found calls) (sym is)
+two_added = adding.two_added with_calls both_added
 
--- what comes at a place and behind it
-from_place : {X : Type 0} (xs : List X) (i : ℕ) (d : X) → i < length xs → drop i xs ≡ slice_index_or xs i d ∷ drop (i + 1) xs
-from_place [] i d lt = absurd (omega (arith, lt))
-from_place (x ∷ xs) zero d lt = refl
-from_place (x ∷ xs) (suc i) d lt =
-    let e : suc (i + 1) ≡ suc i + 1 = omega arith in
-    from_place xs i d (omega (arith, lt)) ∙ ap (λ n. slice_index_or xs i d ∷ drop n (x ∷ xs)) e
-
--- one turn of a loop that adds what each of a list has
 pub next_added : {X : Type 0} (calls : X → Calls) (xs : List X) (i : ℕ) (x : X) (found now : Calls) → i < length xs → x ≡ slice_index_or xs i x → now ≡ with_calls found (calls x)
     → with_calls found (flat (map calls (drop i xs))) ≡ with_calls now (flat (map calls (drop (i + 1) xs)))
-next_added calls xs i x found now lt is added =
-    let rest = drop (i + 1) xs in
-    ap (λ ys. with_calls found (flat (map calls ys))) (from_place xs i x lt) ∙ ap (λ y. with_calls found (flat (map calls (y ∷ rest)))) (sym is)
-    ∙ both_added found (calls x) (flat (map calls rest)) ∙ ap (λ f. with_calls f (flat (map calls rest))) (sym added)
+next_added = adding.next_added with_calls both_added
 
--- calls on lines up to n
-pub upto-append : (n : ℕ) (xs ys : Lined) → upto n (xs ++ ys) ≡ upto n xs ++ upto n ys
-upto-append n xs ys =
-    ap (λ (calls : Lined). map (λ call. call.1) calls) (filter-append (λ call. nat_le call.0 n) xs ys)
-    ∙ map-append (λ (call : ℕ × Template). call.1) (filter (λ call. nat_le call.0 n) xs) (filter (λ call. nat_le call.0 n) ys)
+pub two_upto : (n : ℕ) (found mid now : Calls) (xs ys all : Lined Template) → all ≡ xs ++ ys → mid ≡ with_calls found (upto n xs) → now ≡ with_calls mid (upto n ys) → now ≡ with_calls found (upto n all)
+two_upto = adding.two_upto with_calls both_added
 
-pub upto_in : (n line : ℕ) (calls : Calls) → line ≤ n → upto n (at line calls) ≡ calls
-upto_in n line [] le = refl
-upto_in n line (call ∷ calls) le = rw (le-leb line n le) (ap (λ (cs : Calls). call ∷ cs) (upto_in n line calls le))
-
-pub upto_out : (n line : ℕ) (calls : Calls) → n < line → upto n (at line calls) ≡ []
-upto_out n line [] lt = refl
-upto_out n line (call ∷ calls) lt = rw (lt-leb line n lt) (upto_out n line calls lt)
-
--- one turn of a loop that adds what each of a list has up to line n
-pub next_upto : {X : Type 0} (calls : X → Lined) (n : ℕ) (xs : List X) (i : ℕ) (x : X) (found now : Calls) → i < length xs → x ≡ slice_index_or xs i x → now ≡ with_calls found (upto n (calls x))
+pub next_upto : {X : Type 0} (calls : X → Lined Template) (n : ℕ) (xs : List X) (i : ℕ) (x : X) (found now : Calls) → i < length xs → x ≡ slice_index_or xs i x → now ≡ with_calls found (upto n (calls x))
     → with_calls found (upto n (flat (map calls (drop i xs)))) ≡ with_calls now (upto n (flat (map calls (drop (i + 1) xs))))
-next_upto calls n xs i x found now lt is added =
-    let rest = drop (i + 1) xs in
-    ap (λ ys. with_calls found (upto n (flat (map calls ys)))) (from_place xs i x lt) ∙ ap (λ y. with_calls found (upto n (flat (map calls (y ∷ rest))))) (sym is)
-    ∙ ap (λ (cs : Calls). with_calls found cs) (upto-append n (calls x) (flat (map calls rest)))
-    ∙ both_added found (upto n (calls x)) (upto n (flat (map calls rest))) ∙ ap (λ f. with_calls f (upto n (flat (map calls rest)))) (sym added)
-
--- a command with two parts
-pub two_upto : (n : ℕ) (found mid now : Calls) (xs ys all : Lined) → all ≡ xs ++ ys → mid ≡ with_calls found (upto n xs) → now ≡ with_calls mid (upto n ys) → now ≡ with_calls found (upto n all)
-two_upto n found mid now xs ys all is first last =
-    two_added found mid now (upto n xs) (upto n ys) (upto n all) (ap (λ (cs : Lined). upto n cs) is ∙ upto-append n xs ys) first last
+next_upto = adding.next_upto with_calls both_added
 
 -- a command with a suite
 pub calls_if : (x : Test) (suite : List Action) (line : ℕ) → calls_in_node (n.If x suite) line ≡ at line (calls_in_test x) ++ flat (map calls_in_action suite)

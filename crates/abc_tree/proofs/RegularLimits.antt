@@ -20,6 +20,7 @@ use Rattle.abc_tree.proofs.RegularItemRows.{on, positive}
 
 -- A command with these names, which it doesn't use.
 depends_on_names : (names : List (List ℕ)) → is_regular_command (record { names = names; action = on 1 n.Pass }) ≡ nat_le (length names) MOST_NAMES
+unfolding is_regular_command
 depends_on_names names = search (rules, the_lemmas, bounds, tests, actions)
 
 as_many_names_as_may_be : (names : List (List ℕ)) → length names ≡ 1000 → is_regular_command (record { names = names; action = on 1 n.Pass }) ≡ true
@@ -113,6 +114,7 @@ abbrev apart_from : ℕ → List ℕ → Bool
 apart_from k ns = are_apart ns (addressed (parts_of (nested k)))
 
 depends_on_suites : (k : ℕ) → command (nested k) ≡ nat_le k MOST_SUITES
+unfolding is_regular_command
 depends_on_suites k = ap (λ is. is && do_not_fall (lines_of (parts_of (nested k))) && apart_from k (bounds_of (parts_of (nested k))) && true) (ap (λ is. list_all is (parts_of (nested k))) unshifted ∙ within_nested k 0)
     ∙ ap (λ ns. nat_le (k + 0) MOST_SUITES && do_not_fall ns && apart_from k (bounds_of (parts_of (nested k))) && true) (lines_nested k)
     ∙ ap (λ is. nat_le (k + 0) MOST_SUITES && is && apart_from k (bounds_of (parts_of (nested k))) && true) (do_not_fall_ones k)
@@ -132,6 +134,7 @@ third_decides true false c d f g h i j e = refl
 third_decides false b c d f g h i j e = refl
 
 one_formal_too_many : (unit : Routine) → length unit.formals ≡ 51 → is_regular_unit unit ≡ false
+unfolding is_regular_unit
 one_formal_too_many unit e = third_decides (is_regular_template unit.template) (length unit.formals == unit.template.places) (nat_le (length unit.formals) MOST_FORMALS)
     (list_all (is_regular_bound (names_of unit)) unit.formals) (list_all (λ i. nat_lt i.0 (length unit.names)) unit.shared) (nat_le (length unit.names) MOST_NAMES)
     (has_regular_bodies unit) (has_regular_lines unit) (has_single_roles unit) (ap (λ k. nat_le k MOST_FORMALS) e)

@@ -5,6 +5,7 @@ pub mod Ordered
 pub mod Units
 pub mod Lists
 pub mod Height
+pub mod Lined
 pub mod Calls
 pub mod Roles
 pub mod Regular

@@ -1,11 +1,9 @@
 -- Regular expressions, tests, addresses and literals: what holds of each that is read from lines without a fault.
 use Rattle.std.specs.Prelude.{ℕ, ◌+◌, Bool, true, false, not, ◌&&◌, ◌==◌, nat_le, nat_lt, List, [], ◌∷◌, length, map, Option, Some, None, int_lt, pos}
-use Rattle.std.specs.List.{list_all}
 use Rattle.abc_num.specs.Number.{Fraction}
-use Rattle.abc_num.specs.declared.limits.TheConstants.{FIRST_CHARACTER, LAST_CHARACTER, MOST_TREE_HEIGHT}
-use Rattle.abc_tokens.specs.declared.kinds.TokenKind.{TokenKind}
-use Rattle.abc_tokens.specs.declared.kinds.TokenKind.TheVariants as token
-use Rattle.abc_tokens.specs.Scanned.{word_in_front}
+use Rattle.abc_num.specs.Characters.{are_characters}
+use Rattle.abc_num.specs.declared.limits.TheConstants.{MOST_TREE_HEIGHT}
+use Rattle.abc_tokens.specs.Kinds.{is_name, is_keyword}
 use Rattle.abc_tokens.specs.Shape.{is_reserved}
 use Rattle.abc_tree.specs.Roles.{is_prefix, is_infix, is_relation, is_membership}
 use Rattle.abc_tree.specs.Height.{height, test_height}
@@ -36,25 +34,6 @@ every (b ∷ bs) = b && every bs
 abbrev pub some : {X : Type 0} → List X → Bool
 some [] = false
 some (x ∷ xs) = true
-
--- the bytes spell one token, which is a name or a keyword
-abbrev pub is_token : Option (TokenKind × ℕ) → (TokenKind → Bool) → ℕ → Bool
-is_token None is long = false
-is_token (Some found) is long = is found.0 && (found.1 == long)
-
-abbrev pub is_name_kind : TokenKind → Bool
-is_name_kind token.Name = true
-is_name_kind _ = false
-
-abbrev pub is_keyword_kind : TokenKind → Bool
-is_keyword_kind token.Keyword = true
-is_keyword_kind _ = false
-
-abbrev pub is_name : List ℕ → Bool
-is_name bytes = is_token (word_in_front bytes) is_name_kind (length bytes)
-
-abbrev pub is_keyword : List ℕ → Bool
-is_keyword bytes = is_token (word_in_front bytes) is_keyword_kind (length bytes)
 
 -- how many words are places
 abbrev pub count_places : List Word → ℕ
@@ -123,16 +102,13 @@ abbrev pub is_test_kind : Option RefinementKind → Bool
 is_test_kind (Some refines.Test) = true
 is_test_kind _ = false
 
-abbrev pub is_character : ℕ → Bool
-is_character c = nat_le FIRST_CHARACTER c && nat_le c LAST_CHARACTER
-
 module _ (names : Names) where
   -- a name has a number of the names
   abbrev pub is_there : NameId → Bool
   is_there i = nat_lt i.0 names.count
 
   abbrev pub piece_is : Piece-F Bool Bool Bool Bool → Bool
-  piece_is (Piece-F.Chars bytes) = list_all is_character bytes
+  piece_is (Piece-F.Chars bytes) = are_characters bytes
   piece_is (Piece-F.Conversion e) = e
 
   abbrev pub fill_is : Fill-F Bool Bool Bool Bool → Bool

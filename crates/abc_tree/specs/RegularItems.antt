@@ -1,5 +1,5 @@
 -- Regular commands and units.
-use Rattle.std.specs.Prelude.{ℕ, suc, Bool, true, false, not, ◌&&◌, ◌==◌, nat_le, nat_lt, List, [], ◌∷◌, ◌++◌, length, map, filter, Option, Some, None, unwrap_or, slice_get, if◌then◌else◌}
+use Rattle.std.specs.Prelude.{◌≡◌, ◌<◌, ℕ, suc, Bool, true, false, not, ◌&&◌, ◌==◌, nat_le, nat_lt, List, [], ◌∷◌, ◌++◌, length, map, filter, Option, Some, None, unwrap_or, option_map, slice_get, slice_index_or, if◌then◌else◌}
 use Rattle.std.specs.List.{list_all, list_any}
 use Rattle.abc_num.specs.Text.{text_eq}
 use Rattle.abc_num.specs.declared.limits.TheConstants.{MOST_LINES, MOST_NAMES, MOST_FORMALS, MOST_SUITES}
@@ -8,6 +8,7 @@ use Rattle.abc_tree.specs.Regular.{Names, is_call, is_command, is_regular_templa
 use Rattle.abc_tree.specs.declared.templates.Template.{Template}
 use Rattle.abc_tree.specs.declared.templates.TemplateKind.{TemplateKind}
 use Rattle.abc_tree.specs.declared.templates.TemplateKind.TheVariants as kind
+use Rattle.abc_tree.specs.declared.formulas.NameId.{NameId}
 use Rattle.abc_tree.specs.declared.formulas.Bound.{Bound, fold-Bound}
 use Rattle.abc_tree.specs.declared.formulas.Bound.TheOpen.{Bound-F}
 use Rattle.abc_tree.specs.declared.formulas.Expr.{Expr, fold-Expr}
@@ -65,15 +66,16 @@ abbrev pub is_else : Option Test → Bool
 is_else None = true
 is_else (Some t) = false
 
--- ELSE is the last alternative
+-- what an alternative before the last adds: it may not be ELSE
+abbrev pub early : Bool → Parts
+early true = here (early_else ∷ [])
+early false = []
+
+-- the parts of all alternatives
 abbrev pub ways : List Way → Parts
 ways [] = []
 ways (way ∷ []) = way.parts
-ways (way ∷ way_2 ∷ rest) = (if_early way.otherwise ++ way.parts) ++ ways (way_2 ∷ rest)
-  where
-    if_early : Bool → Parts
-    if_early true = here (early_else ∷ [])
-    if_early false = []
+ways (way ∷ way_2 ∷ rest) = (early way.otherwise ++ way.parts) ++ ways (way_2 ∷ rest)
 
 abbrev pub node_parts : ActionNode-F Parts Parts Way → Parts
 node_parts (ActionNode-F.Write before part after) = here (written_part part)
@@ -115,6 +117,12 @@ pub record Exits : Type 0 where
   pub quit : Bool
   pub return : Bool
   pub report : Bool
+
+-- QUIT leaves a command unit, RETURN a function, and REPORT, SUCCEED and FAIL a predicate
+abbrev pub exits_of : TemplateKind → Exits
+exits_of kind.Command = record { quit = true; return = false; report = false }
+exits_of kind.Function = record { quit = false; return = true; report = false }
+exits_of kind.Predicate = record { quit = false; return = false; report = true }
 
 -- the command refinements of a unit
 abbrev pub is_one_of : List (List ℕ) → List ℕ → Bool
@@ -173,9 +181,12 @@ address_over (Expr-F.Select t k) = t
 address_over (Expr-F.Compound parts) = flat parts
 address_over _ = []
 
+abbrev pub bounds_in_test : Test → List ℕ
+bounds_in_test = fold-Test (List ℕ) test_bounds
+
 abbrev pub bounds_in : Part → List ℕ
 bounds_in (bound b) = bound_names b
-bounds_in (test t) = fold-Test (List ℕ) test_bounds t
+bounds_in (test t) = bounds_in_test t
 bounds_in _ = []
 
 abbrev pub addressed_in : Part → List ℕ
@@ -188,22 +199,38 @@ bounds_of parts = flat (map (λ part. bounds_in part.1) parts)
 abbrev pub addressed : Parts → List ℕ
 addressed parts = flat (map (λ part. addressed_in part.1) parts)
 
+-- a number is among these
+abbrev pub is_among : List ℕ → ℕ → Bool
+is_among ns m = list_any (λ n. m == n) ns
+
 -- no number of the one list stands in the other
 abbrev pub are_apart : List ℕ → List ℕ → Bool
-are_apart ms ns = list_all (λ m. not (list_any (λ n. m == n) ns)) ms
+are_apart ms ns = list_all (λ m. not (is_among ns m)) ms
+
+-- one flag for each of so many names: whether its number is among these
+pub record AreFlags (count : ℕ) (numbers : List ℕ) (flags : List Bool) : Type 0 where
+  pub all : length flags ≡ count
+  pub each : (i : ℕ) (d : Bool) → i < count → slice_index_or flags i d ≡ is_among numbers i
+
+-- none of a command's names is a refinement
+abbrev pub command_names : Command → Names
+command_names command = record { count = length command.names; refinement = λ i. None }
 
 -- a regular immediate command
-abbrev pub is_regular_command : Command → Bool
+unfoldable pub is_regular_command : Command → Bool
 is_regular_command command =
-    let names : Names = record { count = length command.names; refinement = λ i. None } in
     let parts = parts_of command.action in
-    are_regular_parts names [] (record { quit = true; return = false; report = false }) parts
+    are_regular_parts (command_names command) [] (exits_of kind.Command) parts
     && do_not_fall (lines_of parts) && are_apart (bounds_of parts) (addressed parts) && nat_le (length command.names) MOST_NAMES
 
 -- the refinement with this name, if there is one
+abbrev pub refinement_by : List ℕ → List Refinement → Option Refinement
+refinement_by name [] = None
+refinement_by name (r ∷ rs) = if text_eq r.name name then Some r else refinement_by name rs
+
+-- its kind
 abbrev pub refinement_named : List ℕ → List Refinement → Option RefinementKind
-refinement_named name [] = None
-refinement_named name (r ∷ rs) = if text_eq r.name name then Some r.kind else refinement_named name rs
+refinement_named name rs = option_map (λ r. r.kind) (refinement_by name rs)
 
 -- the text of a name
 abbrev pub name_at : List (List ℕ) → ℕ → List ℕ
@@ -211,12 +238,6 @@ name_at names i = unwrap_or (slice_get names i) []
 
 abbrev pub names_of : Routine → Names
 names_of unit = record { count = length unit.names; refinement = λ i. refinement_named (name_at unit.names i) unit.refinements }
-
--- QUIT leaves a command unit, RETURN a function, and REPORT, SUCCEED and FAIL a predicate
-abbrev pub exits_of : TemplateKind → Exits
-exits_of kind.Command = record { quit = true; return = false; report = false }
-exits_of kind.Function = record { quit = false; return = true; report = false }
-exits_of kind.Predicate = record { quit = false; return = false; report = true }
 
 -- and in a refinement likewise; QUIT leaves those of a command unit alone
 abbrev pub refinement_exits : TemplateKind → RefinementKind → Exits
@@ -251,8 +272,12 @@ has_regular_lines unit =
 abbrev pub formal_names : Routine → List ℕ
 formal_names unit = flat (map bound_names unit.formals)
 
+-- the numbers of these names
+abbrev pub numbers : List NameId → List ℕ
+numbers ids = map (λ i. i.0) ids
+
 abbrev pub shared_names : Routine → List ℕ
-shared_names unit = map (λ i. i.0) unit.shared
+shared_names unit = numbers unit.shared
 
 abbrev pub are_different : List (List ℕ) → Bool
 are_different [] = true
@@ -269,7 +294,7 @@ has_single_roles unit =
     && list_all (λ name. not (is_one_of refinements name)) (texts (bounds_of parts ++ addressed parts))
 
 -- a regular unit
-abbrev pub is_regular_unit : Routine → Bool
+unfoldable pub is_regular_unit : Routine → Bool
 is_regular_unit unit =
     is_regular_template unit.template && (length unit.formals == unit.template.places) && nat_le (length unit.formals) MOST_FORMALS
     && list_all (is_regular_bound (names_of unit)) unit.formals && list_all (λ i. nat_lt i.0 (length unit.names)) unit.shared && nat_le (length unit.names) MOST_NAMES

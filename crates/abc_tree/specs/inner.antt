@@ -1,3 +1,4 @@
 -- Steps of the code, in words that no public clause uses.
 pub mod Search
 pub mod TemplatesView
+pub mod Bindings

@@ -1,15 +1,17 @@
 //! The tree of an item: expressions, tests, commands, units; templates and what is called; units as a map.
 #![tactic(auto)]
 
-mod caller;
+mod binding;
+mod called;
 mod commands;
 mod formulas;
+mod laws;
 mod operations;
 mod search;
 mod templates;
-mod workspace;
+mod units;
 
-pub use caller::calls;
+pub use called::{calls, command_calls};
 pub use commands::{
     Action, ActionNode, Alternative, Alternatives, Command, Environment, Item, NameIds, Refinement,
     RefinementKind, Refinements, Suite, Unit,
@@ -18,9 +20,10 @@ pub use formulas::{
     Bound, Bounds, Expr, Exprs, Fill, Fills, Link, Links, NameId, Pair, Pairs, Piece, Pieces,
     Quantifier, Test,
 };
+pub use laws::one_template;
 pub use operations::Op;
 pub use templates::{Template, TemplateKind, Word, Words};
-pub use workspace::Units;
+pub use units::Units;
 
 #[cfg(test)]
 mod tests;

@@ -10,10 +10,10 @@ use Rattle.abc_terms.specs.declared.term.VarId.{VarId}
 use Rattle.abc_terms.specs.declared.term.Term.{Term}
 use Rattle.abc_terms.specs.declared.term.Term.TheVariants as term
 use Rattle.abc_terms.specs.Demands.{stands_for, IsCollectionOf, IsNumberOrText}
-use Rattle.abc_terms.specs.Nodes.{IsVariable, IsNode}
+use Rattle.abc_terms.specs.Nodes.{IsVariable, IsNode, AreIn}
 use Rattle.abc_terms.proofs.Grounds.{out_same, out_number, out_text, out_list, out_table, out_compound}
 use Rattle.abc_terms.proofs.Terms.{stands_number, stands_text, stands_list, stands_table, stands_compound, variable_in, node_compound}
-use Rattle.abc_unify.specs.inner.Kinds.{types, IsTrain, IsCollection, IsPlain, AreIn}
+use Rattle.abc_unify.specs.Outer.{types, IsTrain, IsCollection, IsPlain}
 
 form_is : (g h : Ground) (f : Ground-F Ground) → out-Ground h ≡ f → (g ≡ h) ↔ (out-Ground g ≡ f)
 form_is g h f is = (λ e. ap out-Ground e ∙ is, λ e. out_same g h (e ∙ sym is))

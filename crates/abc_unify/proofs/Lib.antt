@@ -10,3 +10,13 @@ pub mod Solved
 pub mod Undoing
 pub mod Forming
 pub mod Backward
+pub mod Varying
+pub mod Deciding
+pub mod Opening
+pub mod Downward
+pub mod Gathering
+pub mod Asking
+pub mod Stamping
+pub mod Named
+pub mod Noting
+pub mod Shortening

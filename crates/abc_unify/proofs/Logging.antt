@@ -8,6 +8,7 @@ use Rattle.abc_unify.specs.declared.kind.Kind.TheVariants.{Free}
 use Rattle.abc_unify.specs.declared.kind.Slot.{Slot}
 use Rattle.abc_unify.specs.declared.kind.Slot.TheVariants.{Root}
 use Rattle.abc_unify.specs.declared.log.Entry.{Entry}
+use Rattle.abc_unify.specs.inner.Slots.{SlotIn, SlotsIn}
 use Rattle.abc_unify.specs.inner.Logs.{rolled, EntryIn, IsLogged}
 
 pub rolled-append : (slots : List Slot) (older newer : List Entry) → rolled slots (older ++ newer) ≡ rolled (rolled slots newer) older
@@ -31,12 +32,12 @@ logged_nothing slots log = record {
   inside = All-nil (EntryIn (length slots));
 }
 
-pub logged_write : (slots : List Slot) (log : List Entry) (i : ℕ) (x : Slot) (e : Entry) → i < length slots → e.at.0 ≡ i → e.was ≡ get_or slots i (Root Free) → IsLogged slots log (set slots i x) (log ++ e ∷ [])
-logged_write slots log i x e h at was = record {
+pub logged_write : (slots : List Slot) (log : List Entry) (i : ℕ) (x : Slot) (e : Entry) → i < length slots → e.at.0 ≡ i → e.was ≡ get_or slots i (Root Free) → SlotsIn slots → IsLogged slots log (set slots i x) (log ++ e ∷ [])
+logged_write slots log i x e h at was slots_in = record {
   newer = e ∷ [];
   log_is = refl;
   back = ap (λ j. set (set slots i x) j e.was) at ∙ (ap (λ y. set (set slots i x) i y) was ∙ set_back slots i x);
-  inside = All-cons (EntryIn (length slots)) e [] (subst (λ j. j < length slots) (sym at) h) (All-nil (EntryIn (length slots)));
+  inside = All-cons (EntryIn (length slots)) e [] (subst (λ j. j < length slots) (sym at) h, subst (λ j. SlotIn (length slots) j e.was) (sym at) (subst (λ t. SlotIn (length slots) i t) (sym was) (slots_in i))) (All-nil (EntryIn (length slots)));
 }
 
 pub logged_then : (s : List Slot) (l : List Entry) (s2 : List Slot) (l2 : List Entry) (s3 : List Slot) (l3 : List Entry) → IsLogged s l s2 l2 → IsLogged s2 l2 s3 l3 → IsLogged s l s3 l3

@@ -10,7 +10,8 @@ use Rattle.abc_unify.specs.declared.kind.Kind.{Kind}
 use Rattle.abc_unify.specs.declared.kind.Kind.TheVariants.{Free, Number, Text, NumberOrText, ListOf, TableOf, TrainOf, CollectionOf, Compound}
 use Rattle.abc_unify.specs.declared.kind.Slot.{Slot}
 use Rattle.abc_unify.specs.declared.kind.Slot.TheVariants.{Link, Root}
-use Rattle.abc_unify.specs.inner.Kinds.{types, Fits, IsTrain, IsCollection}
+use Rattle.abc_unify.specs.Outer.{types, IsTrain, IsCollection}
+use Rattle.abc_unify.specs.inner.Kinds.{Fits}
 use Rattle.abc_unify.specs.inner.Slots.{SlotHolds, Meets, SlotsIn, SlotIn, follow, root_within, root_of, IsAmong, IsChild, IsRanked}
 
 -- two ways to go on that agree below a lead to one variable
@@ -153,6 +154,15 @@ module _ (slots : List Slot) (given : ℕ → Bool) (u : ℕ → Ground) (rank :
             subst (λ g. Fits (assignment slots given u rank) g k) (sym form) (built_fits (assignment slots given u rank) k)
       ]
 
+  -- where no type is given, a class has the type that is built of its kind
+  pub built_at : (i : ℕ) (k : Kind) → given i ≡ false → get_or slots i (Root Free) ≡ Root k → out-Ground (assignment slots given u rank i) ≡ built (assignment slots given u rank) k
+  built_at i k unset is =
+      let same : root_of slots i ≡ i = root_of-root slots i k is in
+      let here : solution slots given u (suc (rank i)) i ≡ roll-Ground (built (λ c. solution slots given u (rank i) (root_of slots c)) k) = solution_open (rank i) i k unset is in
+      let there : built (λ c. solution slots given u (rank i) (root_of slots c)) k ≡ built (assignment slots given u rank) k =
+      built_same (λ c. solution slots given u (rank i) (root_of slots c)) (assignment slots given u rank) k (λ x c. at_child i x k is c) in
+      ap (λ r. out-Ground (solution slots given u (suc (rank r)) r)) same ∙ (ap out-Ground here ∙ (out-roll-Ground (built (λ c. solution slots given u (rank i) (root_of slots c)) k) ∙ there))
+
   slot_holds : (closed : IsClosed slots given u) (inside : SlotsIn slots) (i : ℕ) (s : Slot) → get_or slots i (Root Free) ≡ s → SlotHolds (assignment slots given u rank) (assignment slots given u rank i) s
   slot_holds closed inside i (Root k) is =
       let same : root_of slots i ≡ i = root_of-root slots i k is in
@@ -168,7 +178,7 @@ module _ (slots : List Slot) (given : ℕ → Bool) (u : ℕ → Ground) (rank :
   pub solution_is_given : (r : ℕ) → given (root_of slots r) ≡ true → assignment slots given u rank r ≡ u (root_of slots r)
   solution_is_given r h = solution_given (suc (rank (root_of slots r))) (root_of slots r) h
 
-nothing_given : (slots : List Slot) (u : ℕ → Ground) → IsClosed slots (λ _. false) u
+pub nothing_given : (slots : List Slot) (u : ℕ → Ground) → IsClosed slots (λ _. false) u
 nothing_given slots u = record {
   meets = λ r k set is. absurd (cc);
   closed = λ r k x set is c. absurd (cc);

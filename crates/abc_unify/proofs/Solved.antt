@@ -14,10 +14,10 @@ use Rattle.abc_terms.specs.declared.term.VarId.{VarId}
 use Rattle.abc_terms.specs.declared.term.Term.{Term}
 use Rattle.abc_terms.specs.declared.demand.Demand.{Demand}
 use Rattle.abc_terms.specs.declared.demand.Demand.TheVariants as demand
-use Rattle.abc_terms.specs.Demands.{stands_for, Holds}
+use Rattle.abc_terms.specs.Demands.{stands_for, Holds, MeetsAll}
 use Rattle.abc_terms.specs.Nodes.{named, DemandIn, IsNode, IsUnnamed}
 use Rattle.abc_terms.proofs.Terms.{demand_in_more, names_below, node_more}
-use Rattle.abc_terms.proofs.Regularity.{mended_types, mended_is_regular, meets_mended}
+use Rattle.abc_terms.proofs.Mending.{mended_types, mended_is_proper, meets_mended}
 use Rattle.abc_unify.specs.declared.kind.Kind.{Kind}
 use Rattle.abc_unify.specs.declared.kind.Kind.TheVariants.{Free}
 use Rattle.abc_unify.specs.declared.kind.Slot.{Slot}
@@ -50,6 +50,24 @@ solved_with slots slots2 demands d q old made count same inside keeps ranks = re
   ranked = ranks.1;
 }
 
+-- the same of some demands
+pub solved_with_all : (slots slots2 : List Slot) (demands more : List Demand) (asks : List Ask) → IsSolved slots demands → All (DemandIn (length slots)) more → length slots2 ≡ length slots → ((v : ℕ → Ground) → MeetsAll v more ↔ AsksHold v asks) → SlotsIn slots2 → KeepsSolutions slots asks slots2 [] → (rank : ℕ → ℕ) × IsRanked slots2 rank → IsSolved slots2 (demands ++ more)
+solved_with_all slots slots2 demands more asks old made count same inside keeps ranks = record {
+  few = omega (arith, old.few);
+  inside = inside;
+  made = subst (λ n. All (DemandIn n) (demands ++ more)) (sym count) (All-append (DemandIn (length slots)) demands more old.made made);
+  from_demands = λ v m. (keeps.onward v (old.from_demands v (All-front (Holds v) demands more m)) ((same v).0 (All-behind (Holds v) demands more m))).0;
+  to_demands = λ v m.
+      let r : Meets v slots × AsksHold v asks = keeps.back v m (All-nil (AskHolds v)) in
+      All-append (Holds v) demands more (old.to_demands v r.0) ((same v).1 r.1);
+  rank = ranks.0;
+  ranked = ranks.1;
+}
+
+pub clash_with_all : (slots : List Slot) (demands more : List Demand) (asks : List Ask) → IsSolved slots demands → ((v : ℕ → Ground) → MeetsAll v more ↔ AsksHold v asks) → HasNoSolution slots asks → IsUnsolvable (demands ++ more)
+clash_with_all slots demands more asks old same never v m =
+    never v (old.from_demands v (All-front (Holds v) demands more m)) ((same v).0 (All-behind (Holds v) demands more m))
+
 pub clash_with : (slots : List Slot) (demands : List Demand) (d : Demand) (q : Ask) → IsSolved slots demands → ((v : ℕ → Ground) → Holds v d ↔ AskHolds v q) → HasNoSolution slots (q ∷ []) → IsUnsolvable (demands ++ d ∷ [])
 clash_with slots demands d q old same never v m =
     never v (old.from_demands v (All-front (Holds v) demands (d ∷ []) m)) (All-one (AskHolds v) q ((same v).0 (All-head (Holds v) d [] (All-behind (Holds v) demands (d ∷ []) m))))
@@ -57,7 +75,7 @@ clash_with slots demands d q old same never v m =
 pub solved_has_solution : (slots : List Slot) (demands : List Demand) → IsSolved slots demands → HasSolution demands
 solved_has_solution slots demands solved =
     let r : (v : ℕ → Ground) × Meets v slots = ranked_has_solution slots solved.rank solved.inside solved.ranked in
-    (mended_types r.0, λ a. mended_is_regular (r.0 a), meets_mended r.0 (length slots) demands solved.made (solved.to_demands r.0 r.1))
+    (mended_types r.0, λ a. mended_is_proper (r.0 a), meets_mended r.0 (length slots) demands solved.made (solved.to_demands r.0 r.1))
 
 -- a number past those that demands name is named by none
 next_unnamed : (n : ℕ) (demands : List Demand) → All (DemandIn n) demands → IsUnnamed n demands
@@ -103,7 +121,7 @@ within_below : (slots : List Slot) → SlotsIn slots → (f a : ℕ) → root_wi
 within_below slots inside zero a = omega arith
 within_below slots inside (suc f) a = follow_below (length slots) a (get_or slots a (Root Free)) (root_within slots f) (inside a) (within_below slots inside f)
 
-root_below : (slots : List Slot) → SlotsIn slots → (a : ℕ) → root_of slots a ≤ a
+pub root_below : (slots : List Slot) → SlotsIn slots → (a : ℕ) → root_of slots a ≤ a
 unfolding root_of
 root_below slots inside a = within_below slots inside (suc a) a
 

@@ -17,7 +17,9 @@ use Rattle.abc_unify.specs.declared.kind.Ask.{Ask}
 use Rattle.abc_unify.specs.declared.kind.Ask.TheVariants.{Is, Equal}
 use Rattle.abc_unify.specs.declared.kind.More.{More}
 use Rattle.abc_unify.specs.declared.kind.More.TheVariants.{Nothing, One, Two, Parts}
-use Rattle.abc_unify.specs.inner.Kinds.{types, Fits, AskHolds, AsksHold, children, AreIn, KindIn, AskIn, AsksIn, pairs, asks_of, MoreHolds, MoreFits, MoreIn, HasParts, kind_weight, ask_weight, more_weight}
+use Rattle.abc_terms.specs.Nodes.{AreIn}
+use Rattle.abc_unify.specs.Outer.{types}
+use Rattle.abc_unify.specs.inner.Kinds.{Fits, AskHolds, AsksHold, children, KindIn, AskIn, AsksIn, pairs, asks_of, MoreHolds, MoreFits, MoreIn, HasParts, kind_weight, ask_weight, more_weight}
 use Rattle.abc_unify.specs.inner.Slots.{SlotHolds, Meets, SlotsIn, SlotIn, KeepsSolutions, HasNoSolution, slot_weight, weight}
 
 -- what is written at a place holds there

@@ -3,7 +3,7 @@ use Rattle.std.proofs.Common.{◌≡◌, ◌∙◌, ◌↔◌, sym, subst}
 use Rattle.abc_num.specs.declared.types.Ground.{Ground}
 use Rattle.abc_num.specs.declared.types.Ground.TheOpen.{Ground-F}
 use Rattle.abc_terms.proofs.Grounds.{out_same}
-use Rattle.abc_unify.specs.inner.Kinds.{IsTrain}
+use Rattle.abc_unify.specs.Outer.{IsTrain}
 
 train_of_one : (g : Ground-F Ground) (e f : Ground) → IsTrain g e → IsTrain g f → e ≡ f
 train_of_one Ground-F.Number e f s t = absurd s

@@ -15,9 +15,10 @@ use Rattle.abc_unify.specs.declared.kind.Slot.{Slot}
 use Rattle.abc_unify.specs.declared.log.Entry.{Entry}
 use Rattle.abc_unify.specs.declared.state.Point.{Point}
 use Rattle.abc_unify.specs.inner.Logs.{rolled, EntryIn, IsLogged}
-use Rattle.abc_unify.specs.Graphs.{Held, Seen, held_at, back_at, with_variable, with_demand, with_node}
+use Rattle.abc_unify.specs.Graphs.{Held, Seen, held_at, back_at, with_variable, with_demands, with_node}
 use Rattle.abc_unify.specs.inner.States.{IsSolved, IsPast, IsBefore, IsKept, point_at, earlier}
 use Rattle.abc_unify.proofs.Logging.{rolled-append, rolled_length, logged_nothing}
+use Rattle.abc_unify.proofs.Among.{slot_in_more}
 use Rattle.abc_unify.proofs.Solved.{nothing_solved}
 use Rattle.abc_unify.proofs.Walking.{AllPairs-left}
 
@@ -35,7 +36,7 @@ drop_split : {X : Type 0} (m n : ℕ) (xs : List X) → m ≤ n → n ≤ length
 drop_split m n xs h k = ap (drop m) (sym (take-append-drop n xs)) ∙ drop-append-le m (take n xs) (drop n xs) (omega (arith, length-take-le n xs k))
 
 entries_more : (n m : ℕ) → n ≤ m → (log : List Entry) → All (EntryIn n) log → All (EntryIn m) log
-entries_more n m h log inside = All-weaker (EntryIn n) (EntryIn m) (λ e low. omega arith) log inside
+entries_more n m h log inside = All-weaker (EntryIn n) (EntryIn m) (λ e low. (omega (arith, low.0), slot_in_more n m e.at.0 h e.was low.1)) log inside
 
 module _ (slots slots2 added : List Slot) (log log2 : List Entry) (demands more : List Demand) (logged : IsLogged slots log slots2 log2) where
   same_length : length slots2 ≡ length slots
@@ -249,19 +250,19 @@ module _ (slots : List Slot) (log : List Entry) (demands : List Demand) (history
       let three : List Demand → Seen = λ d. record { count = length slots + 1; demands = d; past = earlier demands history ++ record { count = length slots; demands = demands } ∷ [] } in
       ap one count ∙ (ap two past ∙ ap three g)
 
-  pub kept_demand : (d : Demand) (slots2 slots3 : List Slot) (log2 : List Entry) (demands3 : List Demand) (history3 : List Point) → IsLogged slots log slots2 log2 → slots3 ≡ slots2 → demands3 ≡ demands ++ d ∷ [] → history3 ≡ history ++ p ∷ [] → IsSolved slots2 (demands ++ d ∷ []) → IsKept slots3 log2 demands3 history3
-  kept_demand d slots2 slots3 log2 demands3 history3 logged e g f solved =
+  pub kept_demands : (more : List Demand) (slots2 slots3 : List Slot) (log2 : List Entry) (demands3 : List Demand) (history3 : List Point) → IsLogged slots log slots2 log2 → slots3 ≡ slots2 → demands3 ≡ demands ++ more → history3 ≡ history ++ p ∷ [] → IsSolved slots2 (demands ++ more) → IsKept slots3 log2 demands3 history3
+  kept_demands more slots2 slots3 log2 demands3 history3 logged e g f solved =
       let nil : slots2 ++ [] ≡ slots2 = append-nil slots2 in
-      let all : IsKept (slots2 ++ []) log2 (demands ++ d ∷ []) (history ++ point_at slots log demands ∷ []) =
-      kept_more slots slots2 [] log log2 demands (d ∷ []) logged history kept (subst (λ t. IsSolved t (demands ++ d ∷ [])) (sym nil) solved) in
+      let all : IsKept (slots2 ++ []) log2 (demands ++ more) (history ++ point_at slots log demands ∷ []) =
+      kept_more slots slots2 [] log log2 demands more logged history kept (subst (λ t. IsSolved t (demands ++ more)) (sym nil) solved) in
       let same : history ++ point_at slots log demands ∷ [] ≡ history3 = ap (λ q. history ++ q ∷ []) (sym is) ∙ sym f in
-      subst (λ t. IsKept t log2 demands3 history3) (nil ∙ sym e) (subst (λ t. IsKept (slots2 ++ []) log2 t history3) (sym g) (subst (λ t. IsKept (slots2 ++ []) log2 (demands ++ d ∷ []) t) same all))
+      subst (λ t. IsKept t log2 demands3 history3) (nil ∙ sym e) (subst (λ t. IsKept (slots2 ++ []) log2 t history3) (sym g) (subst (λ t. IsKept (slots2 ++ []) log2 (demands ++ more) t) same all))
 
-  pub seen_demand : (d : Demand) (slots3 : List Slot) (demands3 : List Demand) (history3 : List Point) → length slots3 ≡ length slots → demands3 ≡ demands ++ d ∷ [] → history3 ≡ history ++ p ∷ [] → record { count = length slots3; demands = demands3; past = earlier demands3 history3 } ≡ with_demand (record { count = length slots; demands = demands; past = earlier demands history }) d
-  seen_demand d slots3 demands3 history3 count g f =
+  pub seen_demands : (more : List Demand) (slots3 : List Slot) (demands3 : List Demand) (history3 : List Point) → length slots3 ≡ length slots → demands3 ≡ demands ++ more → history3 ≡ history ++ p ∷ [] → record { count = length slots3; demands = demands3; past = earlier demands3 history3 } ≡ with_demands (record { count = length slots; demands = demands; past = earlier demands history }) more
+  seen_demands more slots3 demands3 history3 count g f =
       let same : history3 ≡ history ++ point_at slots log demands ∷ [] = f ∙ ap (λ q. history ++ q ∷ []) is in
       let past : earlier demands3 history3 ≡ earlier demands history ++ record { count = length slots; demands = demands } ∷ [] =
-      ap (earlier demands3) same ∙ (ap (λ x. earlier x (history ++ point_at slots log demands ∷ [])) g ∙ earlier_with slots log demands (d ∷ []) history kept) in
+      ap (earlier demands3) same ∙ (ap (λ x. earlier x (history ++ point_at slots log demands ∷ [])) g ∙ earlier_with slots log demands more history kept) in
       let one : ℕ → Seen = λ n. record { count = n; demands = demands3; past = earlier demands3 history3 } in
       let two : List Held → Seen = λ u. record { count = length slots; demands = demands3; past = u } in
       let three : List Demand → Seen = λ x. record { count = length slots; demands = x; past = earlier demands history ++ record { count = length slots; demands = demands } ∷ [] } in

@@ -17,9 +17,10 @@ use Rattle.abc_unify.specs.declared.kind.Kind.TheVariants.{Free, Number, Text, N
 use Rattle.abc_unify.specs.declared.kind.Slot.{Slot}
 use Rattle.abc_unify.specs.declared.kind.Slot.TheVariants.{Link, Root}
 use Rattle.abc_unify.specs.declared.kind.Ask.TheVariants.{Is}
-use Rattle.abc_unify.specs.inner.Kinds.{types, Fits, IsTrain, IsCollection, AskHolds}
+use Rattle.abc_unify.specs.Outer.{types, IsTrain, IsCollection, IsText}
+use Rattle.abc_unify.specs.inner.Kinds.{Fits, AskHolds}
 use Rattle.abc_unify.specs.inner.Slots.{SlotHolds, Meets, follow, root_within, root_of, IsRoot, IsAmong, IsChild, KeepsSolutions}
-use Rattle.abc_unify.specs.inner.Cycles.{IsText, LeadsTo, IsBelow, mark_weight, IsDone, Marked, IsOnCycle}
+use Rattle.abc_unify.specs.inner.Cycles.{LeadsTo, IsBelow, mark_weight, IsDone, Marked, IsOnCycle}
 use Rattle.abc_num.proofs.Parts.{All-front}
 use Rattle.abc_unify.proofs.Steps.{All-one, Meets-set, Meets-at_set, Meets-unset}
 

@@ -6,7 +6,7 @@ use Rattle.abc_terms.specs.declared.term.Term.{Term}
 use Rattle.abc_terms.specs.declared.demand.Demand.{Demand}
 use Rattle.abc_terms.specs.declared.demand.Demand.TheVariants as demand
 use Rattle.abc_terms.specs.Demands.{MeetsAll}
-use Rattle.abc_terms.specs.Regular.{IsRegular}
+use Rattle.abc_num.specs.Types.{IsProper}
 
 -- how many variables there are, numbered from 0, and the demands in their order
 pub record Held : Type 0 where
@@ -27,6 +27,10 @@ held s = record { count = s.count; demands = s.demands }
 abbrev pub with_variable : Seen → Seen
 with_variable s = record { count = s.count + 1; demands = s.demands; past = s.past ++ held s ∷ [] }
 
+-- the graph with some demands more
+abbrev pub with_demands : Seen → List Demand → Seen
+with_demands s more = record { count = s.count; demands = s.demands ++ more; past = s.past ++ held s ∷ [] }
+
 -- the graph with one demand more
 abbrev pub with_demand : Seen → Demand → Seen
 with_demand s d = record { count = s.count; demands = s.demands ++ d ∷ []; past = s.past ++ held s ∷ [] }
@@ -45,7 +49,7 @@ back_at s m = record { count = (held_at s m).count; demands = (held_at s m).dema
 
 -- some types of the variables, in which each compound has two fields or more, meet the demands
 abbrev pub HasSolution : List Demand → Type 0
-HasSolution demands = (v : ℕ → Ground) × ((a : ℕ) → IsRegular (v a)) × MeetsAll v demands
+HasSolution demands = (v : ℕ → Ground) × ((a : ℕ) → IsProper (v a)) × MeetsAll v demands
 
 -- no types meet the demands, whatever compounds they have
 abbrev pub IsUnsolvable : List Demand → Type 0

@@ -1,2 +1,4 @@
+pub mod Forms
 pub mod Graphs
+pub mod Outer
 pub mod inner

@@ -2,5 +2,8 @@
 pub mod Cycles
 pub mod Kinds
 pub mod Logs
+pub mod Naming
+pub mod Reading
 pub mod Slots
+pub mod Stamps
 pub mod States

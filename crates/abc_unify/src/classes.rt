@@ -1,10 +1,10 @@
-//! Classes of equal variables: the root of a class, and what is known of it.
+//! Union-find: classes of equal variables, the root of a class, and what is known of it.
 ghost use Rattle.std.specs.Prelude.{◌≡◌, ℕ, ◌<◌, length, slice_index_or, IfOk};
 ghost use Rattle.abc_num.specs.declared.types.Ground.{Ground};
 ghost use Rattle.abc_unify.specs.inner.Slots.{SlotsIn, IsRoot, Meets, root_of};
 
-use crate::kind::{Kind, Slot, Vars};
-use abc_terms::VarId;
+use crate::kind::{Kind, Slot};
+use abc_terms::{VarId, Vars};
 use std::alloc::{AllocError, Global};
 
 /// The variable that stands for the class of `a`.

@@ -1,15 +1,17 @@
-//! A search in depth for a cycle of classes, from the classes that were changed.
+//! The occurs check: a search in depth for a cycle of classes, from the classes that were changed.
 ghost use Rattle.std.specs.Prelude.{◌≡◌, ℕ, ◌<◌, ◌≤◌, ◌^◌, [], length, slice_index, slice_index_or, IfOk, IfSome, IfNone};
 ghost use Rattle.std.specs.List.{All};
 ghost use Rattle.abc_terms.specs.declared.term.VarId.{VarId};
-ghost use Rattle.abc_unify.specs.inner.Kinds.{AreIn, KindIn};
+ghost use Rattle.abc_terms.specs.Nodes.{AreIn};
+ghost use Rattle.abc_unify.specs.inner.Kinds.{KindIn};
 ghost use Rattle.abc_unify.specs.inner.Slots.{SlotsIn, IsRoot, IsAmong, IsChild, root_of};
 ghost use Rattle.abc_unify.specs.inner.Logs.{EntryIn};
-ghost use Rattle.abc_unify.specs.inner.Cycles.{IsBelow, Marked, IsVisit, IsOnCycle, IsSearched};
+ghost use Rattle.abc_unify.specs.inner.Cycles.{IsBelow, Marked, IsVisit, IsTurn, IsOnCycle, IsSearched};
 
 use crate::classes::find;
 use crate::kind::{Kind, Slot};
 use crate::log::Entry;
+use crate::marks::Marks;
 use abc_terms::VarId;
 use std::alloc::{AllocError, Global};
 
@@ -21,7 +23,7 @@ pub enum Walk {
 }
 
 /// The class of the variable, if it is not done.
-fn not_done(slots: &[Slot], marks: &[usize], x: VarId) -> Option<usize>
+fn not_done(slots: &[Slot], marks: &Marks, x: VarId) -> Option<usize>
     requires slots { SlotsIn slots.now }
     requires x { x.0 < length slots.now }
     requires marks { length marks.now ≡ length slots.now }
@@ -29,11 +31,15 @@ fn not_done(slots: &[Slot], marks: &[usize], x: VarId) -> Option<usize>
     ensures none { IfNone result (2 ≤ slice_index marks.now (root_of slots.now x.0)) }
 {
     let root = find(slots, x).index();
-    if marks[root] < 2 { Some(root) } else { None }
+    if marks.get(root) < 2 {
+        Some(root)
+    } else {
+        None
+    }
 }
 
 /// A class of one of the variables that is not done.
-fn first_not_done(slots: &[Slot], marks: &[usize], xs: &[VarId]) -> Option<usize>
+fn first_not_done(slots: &[Slot], marks: &Marks, xs: &[VarId]) -> Option<usize>
     requires slots { SlotsIn slots.now }
     requires xs { AreIn (length slots.now) xs.now }
     requires marks { length marks.now ≡ length slots.now }
@@ -50,7 +56,7 @@ fn first_not_done(slots: &[Slot], marks: &[usize], xs: &[VarId]) -> Option<usize
 }
 
 /// A class that the kind names and that is not done.
-fn next_below(slots: &[Slot], marks: &[usize], kind: &Kind) -> Option<usize>
+fn next_below(slots: &[Slot], marks: &Marks, kind: &Kind) -> Option<usize>
     requires slots { SlotsIn slots.now }
     requires kind { KindIn (length slots.now) kind.now }
     requires marks { length marks.now ≡ length slots.now }
@@ -87,7 +93,7 @@ fn kind_of(slots: &[Slot], root: usize) -> &Kind
 fn visit(
     alloc: Global,
     slots: &[Slot],
-    marks: &mut [usize],
+    marks: &mut Marks,
     first: usize,
     start: usize,
 ) -> Result<Walk, AllocError>
@@ -102,32 +108,33 @@ fn visit(
     let mut next = first;
     let mut stack = Vec::new(alloc);
     stack.push(start)?;
-    marks[start] = 1;
+    marks.set(start, 1);
     while let Some(top) = stack.pop() {
         let kind = kind_of(slots, top);
         match next_below(slots, marks, kind) {
             None => {
-                marks[top] = next;
+                marks.set(top, next);
                 next += 1;
             }
             Some(child) => {
-                if marks[child] == 1 {
+                if marks.get(child) == 1 {
                     return Ok(Walk::Cycle(top));
                 }
                 stack.push(top)?;
                 stack.push(child)?;
-                marks[child] = 1;
+                marks.set(child, 1);
             }
         }
     }
     Ok(Walk::Done(next))
 }
 
-/// The same, also from a class that was visited.
+/// The same, but from a class that was visited, or that no slot names, which can be on no cycle.
 fn visit_from(
     alloc: Global,
     slots: &[Slot],
-    marks: &mut [usize],
+    named: &[bool],
+    marks: &mut Marks,
     first: usize,
     start: usize,
 ) -> Result<Walk, AllocError>
@@ -135,13 +142,18 @@ fn visit_from(
     requires marks { Marked slots.now marks.old [] first }
     requires start { start < length slots.now }
     requires root { IsRoot (slice_index_or slots.now start (Slot.Root Kind.Free)) }
+    requires named { length named.now ≡ length slots.now }
     requires few { length slots.now < 2 ^ 32 }
-    ensures { IfOk result (λ walk. IsVisit slots.now marks.old marks.new start walk) }
+    ensures { IfOk result (λ walk. IsTurn slots.now named.now marks.old marks.new start walk) }
 {
-    if marks[start] != 0 {
+    if !named[start] {
         return Ok(Walk::Done(first));
     }
-    visit(alloc, slots, marks, first, start)
+    if marks.get(start) != 0 {
+        return Ok(Walk::Done(first));
+    }
+    let walk = visit(alloc, slots, marks, first, start)?;
+    Ok(walk)
 }
 
 /// Visits all classes that are reached from slots that were written.
@@ -149,19 +161,21 @@ fn visit_all(
     alloc: Global,
     slots: &[Slot],
     written: &[Entry],
-    marks: &mut [usize],
+    named: &[bool],
+    marks: &mut Marks,
 ) -> Result<Option<usize>, AllocError>
     requires slots { SlotsIn slots.now }
     requires written { All (EntryIn (length slots.now)) written.now }
+    requires named { length named.now ≡ length slots.now }
     requires marks { Marked slots.now marks.old [] 2 }
     requires few { length slots.now < 2 ^ 32 }
     ensures cycle { IfOk result (λ cycle. IfSome cycle (λ top. IsOnCycle slots.now top)) }
-    ensures none { IfOk result (λ cycle. IfNone cycle (IsSearched slots.now written.now)) }
+    ensures none { IfOk result (λ cycle. IfNone cycle (IsSearched slots.now named.now written.now)) }
 {
     let mut next = 2;
     for i in 0..written.len() {
         let start = find(slots, written[i].at).index();
-        match visit_from(alloc, slots, marks, next, start)? {
+        match visit_from(alloc, slots, named, marks, next, start)? {
             Walk::Cycle(top) => {
                 return Ok(Some(top));
             }
@@ -178,13 +192,17 @@ pub fn find_cycle(
     alloc: Global,
     slots: &[Slot],
     written: &[Entry],
+    named: &[bool],
+    marks: &mut Marks,
 ) -> Result<Option<usize>, AllocError>
     requires slots { SlotsIn slots.now }
     requires written { All (EntryIn (length slots.now)) written.now }
+    requires named { length named.now ≡ length slots.now }
     requires few { length slots.now < 2 ^ 32 }
     ensures cycle { IfOk result (λ cycle. IfSome cycle (λ top. IsOnCycle slots.now top)) }
-    ensures none { IfOk result (λ cycle. IfNone cycle (IsSearched slots.now written.now)) }
+    ensures none { IfOk result (λ cycle. IfNone cycle (IsSearched slots.now named.now written.now)) }
 {
-    let mut marks = vec![in alloc; 0; slots.len()]?;
-    visit_all(alloc, slots, written, &mut marks)
+    marks.begin(slots.len())?;
+    let cycle = visit_all(alloc, slots, written, named, marks)?;
+    Ok(cycle)
 }

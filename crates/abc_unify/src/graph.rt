@@ -1,9 +1,13 @@
 //! Numbered variables and the demands on them.
 ghost use Rattle.std.specs.Prelude.{◌≡◌, ◌<◌, ◌≤◌, [], ◌∷◌, ◌++◌, length, IfOk, OnOk, OnErr};
 ghost use Rattle.abc_terms.specs.declared.demand.Demand.{Demand};
-ghost use Rattle.abc_terms.specs.Nodes.{IsNode, IsUnnamed};
-ghost use Rattle.abc_unify.specs.Graphs.{Seen, with_variable, with_demand, with_node, back_at, HasSolution, IsUnsolvable};
+ghost use Rattle.std.specs.List.{All};
+ghost use Rattle.abc_terms.specs.Nodes.{IsNode, IsUnnamed, DemandIn, AreIn};
+ghost use Rattle.abc_unify.specs.Graphs.{Seen, with_variable, with_demand, with_demands, with_node, back_at, HasSolution, IsUnsolvable};
+ghost use Rattle.abc_unify.specs.Forms.{IsForm, AreForms, IsKnown};
 
+use crate::forms::{Form, Known, form_at};
+use crate::gather::forms_at;
 use crate::kind::{Ask, Kind};
 use crate::state::State;
 use abc_num::OutOfMemory;
@@ -62,7 +66,8 @@ pub enum UnifyFault {
 impl Graph {
     /// No variables and no demands.
     pub fn new(alloc: Global) -> Graph
-        ensures { result ≡ record { count = 0; demands = []; past = [] } }
+        ensures empty { result ≡ record { count = 0; demands = []; past = [] } }
+        ensures solvable { HasSolution result.demands }
     {
         Graph {
             alloc,
@@ -70,9 +75,11 @@ impl Graph {
         }
     }
 
-    /// How many variables there are.
+    /// How many variables there are. The demands name no others, and some types meet them.
     pub fn count(&self) -> u32
-        ensures { result ≡ self.now.count }
+        ensures count { result ≡ self.now.count }
+        ensures made { All (DemandIn self.now.count) self.now.demands }
+        ensures solvable { HasSolution self.now.demands }
     {
         self.state.slots.len() as u32
     }
@@ -82,6 +89,7 @@ impl Graph {
         ensures number { IfOk result (λ a. a.0 ≡ self.old.count) }
         ensures ok { OnOk result (self.new ≡ with_variable self.old) }
         ensures unnamed { IfOk result (λ a. IsUnnamed a.0 self.old.demands) }
+        ensures solvable { HasSolution self.new.demands }
         ensures err { OnErr result (self.new ≡ self.old) }
     {
         self.state.add_variable()
@@ -161,6 +169,36 @@ impl Graph {
         )
     }
 
+    /// Demands all of these of variables of this graph. After a fault the graph is as before.
+    pub fn demand_all(&mut self, demands: Vec<Demand>) -> Result<(), UnifyFault>
+        requires { All (DemandIn self.old.count) demands.items }
+        ensures ok { OnOk result (self.new ≡ with_demands self.old demands.items) }
+        ensures solvable { HasSolution self.new.demands }
+        ensures clash { result ≡ Err UnifyFault.Clash → IsUnsolvable (self.old.demands ++ demands.items) }
+        ensures err { OnErr result (self.new ≡ self.old) }
+    {
+        self.state.add_all(self.alloc, demands)
+    }
+
+    /// What the demands say of a variable of this graph: its outer form, or how it varies.
+    pub fn form(&self, a: VarId) -> Result<Form, OutOfMemory>
+        requires { a.0 < self.now.count }
+        ensures { IfOk result (λ f. IsForm self.now.count self.now.demands a.0 f) }
+    {
+        let form = form_at(self.alloc, self.state.slots.as_slice(), a)?;
+        Ok(form)
+    }
+
+    /// The forms of these variables of this graph, and of all that they lead to.
+    pub fn forms(&self, wanted: &[VarId]) -> Result<Vec<Known>, OutOfMemory>
+        requires { AreIn self.now.count wanted.now }
+        ensures forms { IfOk result (λ all. AreForms self.now.count self.now.demands all.items) }
+        ensures there { IfOk result (λ all. All (λ a. IsKnown all.items a.0) wanted.now) }
+    {
+        let all = forms_at(self.alloc, self.state.slots.as_slice(), wanted)?;
+        Ok(all)
+    }
+
     /// The present state, to go back to.
     pub fn mark(&self) -> Mark
         ensures { result ≡ length self.now.past }
@@ -174,7 +212,8 @@ impl Graph {
     /// memory.
     pub fn undo(&mut self, m: Mark)
         requires { m ≤ length self.old.past }
-        ensures { self.new ≡ back_at self.old m }
+        ensures back { self.new ≡ back_at self.old m }
+        ensures solvable { HasSolution self.new.demands }
     {
         if m.calls < self.state.history.len() {
             self.state.go_back(m.calls);

@@ -1,10 +1,6 @@
 //! What is known of a class of equal variables.
 
-use abc_num::Items;
-use abc_terms::VarId;
-
-/// Variables, in their order.
-pub type Vars = Items<VarId>;
+use abc_terms::{VarId, Vars};
 
 /// What is known of a type.
 #[derive(Drop)]
@@ -34,7 +30,7 @@ pub enum Ask {
     Is(VarId, Kind),
 }
 
-/// What becomes of the kind of a class that is asked to be of another.
+/// The result of merging what is known of a class with what is asked of it besides.
 #[derive(Drop)]
 pub enum Met {
     Clash,

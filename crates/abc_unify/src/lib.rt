@@ -3,18 +3,24 @@
 
 mod classes;
 mod cycle;
+mod forms;
+mod gather;
 mod graph;
 mod kind;
 mod laws;
 mod log;
+mod marks;
 mod meet;
+mod naming;
 mod node;
 mod settle;
+mod shorten;
 mod solve;
 mod state;
 
+pub use forms::{Form, Known, VaryKind};
 pub use graph::{Graph, Mark, UnifyFault};
-pub use laws::undo_model;
+pub use laws::{forms_decide, undo_model};
 
 #[cfg(test)]
 mod tests;

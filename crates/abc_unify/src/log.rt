@@ -1,6 +1,7 @@
-//! Each write of a slot goes through `write`, which keeps what the slot was.
+//! The trail: each write of a slot goes through `write`, which keeps what the slot was, so that it can be taken back.
 ghost use Rattle.std.specs.Prelude.{◌≡◌, ◌<◌, ◌≤◌, length, take, drop, slice_set, IfOk, OnErr};
 ghost use Rattle.std.specs.List.{All};
+ghost use Rattle.abc_unify.specs.inner.Slots.{SlotsIn};
 ghost use Rattle.abc_unify.specs.inner.Logs.{IsLogged, rolled, EntryIn};
 
 use crate::kind::Slot;
@@ -22,7 +23,8 @@ pub fn write(
     at: VarId,
     slot: Slot,
 ) -> Result<(), AllocError>
-    requires { at.0 < length slots.old }
+    requires slots { SlotsIn slots.old }
+    requires at { at.0 < length slots.old }
     ensures slots { IfOk result (λ _. slots.new ≡ slice_set slots.old at.0 slot) }
     ensures logged { IsLogged slots.old log.old.items slots.new log.new.items }
     ensures err { OnErr result (slots.new ≡ slots.old) }

@@ -3,8 +3,8 @@ ghost use Rattle.std.specs.Prelude.{ℕ, ◌+◌, ◌≤◌};
 ghost use Rattle.abc_unify.specs.inner.Kinds.{IsMeeting, MetIn, KindIn, kind_weight, met_weight, MetFits};
 ghost use Rattle.abc_terms.specs.declared.term.VarId.{VarId};
 
-use crate::kind::{Ask, Kind, Met, More, Vars};
-use abc_terms::VarId;
+use crate::kind::{Ask, Kind, Met, More};
+use abc_terms::{VarId, Vars};
 
 /// What the kind of a class comes to, where another is asked of it.
 pub fn meet(held: &Kind, asked: Kind) -> Met

@@ -7,24 +7,9 @@ ghost use Rattle.abc_terms.specs.Nodes.{IsVariable, IsNode};
 ghost use Rattle.abc_terms.specs.declared.term.Term.{Term};
 ghost use Rattle.abc_unify.specs.inner.Slots.{SlotHolds, SlotIn};
 
-use crate::kind::{Kind, Slot, Vars};
-use abc_terms::{Term, Terms, VarId};
+use crate::kind::{Kind, Slot};
+use abc_terms::{Term, Terms, Vars};
 use std::alloc::{AllocError, Global};
-
-/// The variable that the term is.
-fn variable_of(term: &Term) -> VarId
-    requires { (n : ℕ) × IsVariable n term.now }
-    ensures { term.now ≡ Term.Var result }
-{
-    match term {
-        Term::Var(a) => *a,
-        Term::Number => unreachable!(),
-        Term::Text => unreachable!(),
-        Term::Compound(_) => unreachable!(),
-        Term::List(_) => unreachable!(),
-        Term::Table(_, _) => unreachable!(),
-    }
-}
 
 /// The variables that the terms are.
 fn variables_of(alloc: Global, terms: &Terms) -> Result<Vars, AllocError>
@@ -34,7 +19,7 @@ fn variables_of(alloc: Global, terms: &Terms) -> Result<Vars, AllocError>
     let terms = terms.as_slice();
     let mut vars = Vec::new(alloc);
     for i in 0..terms.len() {
-        vars.push(variable_of(&terms[i]))?;
+        vars.push(terms[i].variable())?;
     }
     Ok(Vars::from_vec(vars))
 }
@@ -50,10 +35,10 @@ pub fn slot_of(alloc: Global, term: &Term) -> Result<Slot, AllocError>
         Term::Number => Ok(Slot::Root(Kind::Number)),
         Term::Text => Ok(Slot::Root(Kind::Text)),
         Term::Compound(fields) => Ok(Slot::Root(Kind::Compound(variables_of(alloc, fields)?))),
-        Term::List(element) => Ok(Slot::Root(Kind::ListOf(variable_of(element.get())))),
+        Term::List(element) => Ok(Slot::Root(Kind::ListOf(element.get().variable()))),
         Term::Table(key, associate) => Ok(Slot::Root(Kind::TableOf(
-            variable_of(key.get()),
-            variable_of(associate.get()),
+            key.get().variable(),
+            associate.get().variable(),
         ))),
     }
 }

@@ -8,6 +8,7 @@ use crate::classes::{copy_of, find, kind_at};
 use crate::kind::{Ask, Kind, Met, More, Slot};
 use crate::log::{Entry, write};
 use crate::meet::meet;
+use crate::shorten::{shorten_asked, shorten_written};
 use abc_terms::VarId;
 use std::alloc::{AllocError, Global};
 
@@ -135,7 +136,7 @@ fn merge(
 }
 
 /// Takes all that is asked into the slots. False is for what no types meet.
-pub fn solve(
+fn solve_each(
     alloc: Global,
     slots: &mut [Slot],
     log: &mut Vec<Entry>,
@@ -150,6 +151,7 @@ pub fn solve(
     ensures logged { IsLogged slots.old log.old.items slots.new log.new.items }
 {
     while let Some(ask) = work.pop() {
+        shorten_asked(slots, log, &ask)?;
         match ask {
             Ask::Equal(a, b) => merge(alloc, slots, log, work, a, b)?,
             Ask::Is(a, kind) => {
@@ -159,5 +161,28 @@ pub fn solve(
             }
         }
     }
+    Ok(true)
+}
+
+/// The same, and shortens the paths of all that was written, since a search begins there.
+pub fn solve(
+    alloc: Global,
+    slots: &mut [Slot],
+    log: &mut Vec<Entry>,
+    work: &mut Vec<Ask>,
+) -> Result<bool, AllocError>
+    requires slots { SlotsIn slots.old }
+    requires work { AsksIn (length slots.old) work.old.items }
+    ensures slots { IfOk result (λ _. SlotsIn slots.new) }
+    ensures solutions { IfOk result (λ yes. Stepped yes slots.old work.old.items slots.new []) }
+    ensures lighter { IfOk result (λ yes. IsTrue yes → weight slots.new [] ≤ weight slots.old work.old.items) }
+    ensures used_up { IfOk result (λ yes. IsTrue yes → work.new.items ≡ []) }
+    ensures logged { IsLogged slots.old log.old.items slots.new log.new.items }
+{
+    let before = log.len();
+    if !solve_each(alloc, slots, log, work)? {
+        return Ok(false);
+    }
+    shorten_written(slots, log, before)?;
     Ok(true)
 }

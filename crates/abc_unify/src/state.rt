@@ -3,17 +3,20 @@ ghost use Rattle.std.specs.Prelude.{◌≡◌, ℕ, ◌+◌, ◌<◌, ◌^◌, �
 ghost use Rattle.std.specs.List.{All};
 ghost use Rattle.abc_num.specs.declared.types.Ground.{Ground};
 ghost use Rattle.abc_terms.specs.declared.demand.Demand.{Demand};
-ghost use Rattle.abc_terms.specs.Demands.{Holds};
+ghost use Rattle.abc_terms.specs.Demands.{Holds, MeetsAll};
 ghost use Rattle.abc_terms.specs.Nodes.{IsNode, DemandIn};
-ghost use Rattle.abc_unify.specs.inner.Kinds.{AskHolds, AskIn};
+ghost use Rattle.abc_unify.specs.inner.Kinds.{AskHolds, AskIn, AsksHold, AsksIn};
 ghost use Rattle.abc_unify.specs.inner.Slots.{SlotsIn, Stepped, IsRanked};
 ghost use Rattle.abc_unify.specs.inner.Logs.{IsLogged, EntryIn};
-ghost use Rattle.abc_unify.specs.Graphs.{with_variable, with_demand, with_node, back_at, IsUnsolvable};
+ghost use Rattle.abc_unify.specs.inner.Naming.{AreNoted};
+ghost use Rattle.abc_unify.specs.Graphs.{with_variable, with_demand, with_demands, with_node, back_at, IsUnsolvable};
 ghost use Rattle.abc_unify.specs.inner.States.{IsState, seen, point_at};
 
 use crate::graph::UnifyFault;
 use crate::kind::{Ask, Kind, Slot};
 use crate::log::{Entry, roll_back};
+use crate::marks::Marks;
+use crate::naming::note_slot;
 use crate::node::slot_of;
 use crate::settle::settle;
 use abc_num::OutOfMemory;
@@ -29,13 +32,16 @@ pub struct Point {
     pub demands: usize,
 }
 
-/// The slots that the demands led to, the writes of slots, and the earlier states.
+/// The slots that the demands led to, the writes of slots, the demands, and the earlier states; which variables slots name,
+/// and the marks of the searches.
 #[derive(Drop)]
 pub struct State {
     pub slots: Vec<Slot>,
     pub log: Vec<Entry>,
     pub demands: Vec<Demand>,
     pub history: Vec<Point>,
+    pub named: Vec<bool>,
+    pub marks: Marks,
 }
 
 impl State {
@@ -48,6 +54,8 @@ impl State {
             log: Vec::new(alloc),
             demands: Vec::new(alloc),
             history: Vec::new(alloc),
+            named: Vec::new(alloc),
+            marks: Marks::new(alloc),
         }
     }
 
@@ -76,9 +84,11 @@ impl State {
         let point = self.point();
         self.history.reserve(1)?;
         self.slots.reserve(1)?;
+        self.named.reserve(1)?;
         // There is room, so these take no memory and do not fail.
         let _ = self.slots.push(Slot::Root(Kind::Free));
         let _ = self.history.push(point);
+        let _ = self.named.push(false);
         Ok(VarId(number as u32))
     }
 
@@ -100,8 +110,11 @@ impl State {
         self.history.reserve(1)?;
         self.slots.reserve(1)?;
         self.demands.reserve(1)?;
+        self.named.reserve(1)?;
         let a = VarId(number as u32);
         // There is room, so these take no memory and do not fail.
+        let _ = self.named.push(false);
+        note_slot(self.named.as_mut_slice(), &slot);
         let _ = self.slots.push(slot);
         let _ = self.demands.push(Demand::Is(a, t));
         let _ = self.history.push(point);
@@ -126,7 +139,14 @@ impl State {
         if self.history.reserve(1).is_err() {
             return Err(UnifyFault::Memory);
         }
-        match take_in(alloc, self.slots.as_mut_slice(), &mut self.log, ask) {
+        match take_in(
+            alloc,
+            self.slots.as_mut_slice(),
+            &mut self.log,
+            ask,
+            self.named.as_mut_slice(),
+            &mut self.marks,
+        ) {
             Ok(true) => {
                 // There is room, so these take no memory and do not fail.
                 let _ = self.demands.push(demand);
@@ -135,6 +155,50 @@ impl State {
             }
             Ok(false) => Err(UnifyFault::Clash),
             Err(_) => Err(UnifyFault::Memory),
+        }
+    }
+
+    /// Adds demands, all or none. Where no types meet them all, nothing is changed.
+    pub fn add_all(&mut self, alloc: Global, demands: Vec<Demand>) -> Result<(), UnifyFault>
+        requires kept { IsState self.old }
+        requires made { All (DemandIn (length self.old.slots.items)) demands.items }
+        ensures kept { IsState self.new }
+        ensures ok { OnOk result (seen self.new ≡ with_demands (seen self.old) demands.items) }
+        ensures clash { result ≡ Err UnifyFault.Clash → IsUnsolvable (self.old.demands.items ++ demands.items) }
+        ensures err { OnErr result (seen self.new ≡ seen self.old) }
+    {
+        let Ok(mut work) = asks_of_all(alloc, demands.as_slice()) else {
+            return Err(UnifyFault::Memory);
+        };
+        let before = self.point();
+        let mut more = demands;
+        if self.history.reserve(1).is_err() {
+            return Err(UnifyFault::Memory);
+        }
+        if self.demands.append(&mut more).is_err() {
+            return Err(UnifyFault::Memory);
+        }
+        match take_all(
+            alloc,
+            self.slots.as_mut_slice(),
+            &mut self.log,
+            &mut work,
+            self.named.as_mut_slice(),
+            &mut self.marks,
+        ) {
+            Ok(true) => {
+                // There is room, so this takes no memory and does not fail.
+                let _ = self.history.push(before);
+                Ok(())
+            }
+            Ok(false) => {
+                self.demands.truncate(before.demands);
+                Err(UnifyFault::Clash)
+            }
+            Err(_) => {
+                self.demands.truncate(before.demands);
+                Err(UnifyFault::Memory)
+            }
         }
     }
 
@@ -150,6 +214,7 @@ impl State {
         self.slots.truncate(point.variables);
         self.demands.truncate(point.demands);
         self.history.truncate(to);
+        self.named.truncate(point.variables);
     }
 }
 
@@ -159,8 +224,11 @@ fn take_in(
     slots: &mut [Slot],
     log: &mut Vec<Entry>,
     ask: Ask,
+    named: &mut [bool],
+    marks: &mut Marks,
 ) -> Result<bool, AllocError>
     requires slots { SlotsIn slots.old }
+    requires noted { AreNoted slots.old log.old.items named.old }
     requires entries { All (EntryIn (length slots.old)) log.old.items }
     requires ask { AskIn (length slots.old) ask }
     requires ranked { (rank : ℕ → ℕ) × IsRanked slots.old rank }
@@ -171,11 +239,39 @@ fn take_in(
     ensures logged { IfOk result (λ yes. IsTrue yes → IsLogged slots.old log.old.items slots.new log.new.items) }
     ensures refused { IfOk result (λ yes. IsFalse yes → (slots.new ≡ slots.old) × (log.new.items ≡ log.old.items)) }
     ensures err { OnErr result ((slots.new ≡ slots.old) × (log.new.items ≡ log.old.items)) }
+    ensures noted { AreNoted slots.new log.new.items named.new }
 {
-    let before = log.len();
     let mut work = Vec::new(alloc);
     work.push(ask)?;
-    match settle(alloc, slots, log, &mut work) {
+    let taken = take_all(alloc, slots, log, &mut work, named, marks)?;
+    Ok(taken)
+}
+
+/// The same of all that is asked.
+fn take_all(
+    alloc: Global,
+    slots: &mut [Slot],
+    log: &mut Vec<Entry>,
+    work: &mut Vec<Ask>,
+    named: &mut [bool],
+    marks: &mut Marks,
+) -> Result<bool, AllocError>
+    requires slots { SlotsIn slots.old }
+    requires noted { AreNoted slots.old log.old.items named.old }
+    requires entries { All (EntryIn (length slots.old)) log.old.items }
+    requires work { AsksIn (length slots.old) work.old.items }
+    requires ranked { (rank : ℕ → ℕ) × IsRanked slots.old rank }
+    requires few { length slots.old < 2 ^ 32 }
+    ensures slots { IfOk result (λ yes. IsTrue yes → SlotsIn slots.new) }
+    ensures solutions { IfOk result (λ yes. Stepped yes slots.old work.old.items slots.new []) }
+    ensures ranked { IfOk result (λ yes. IsTrue yes → (rank : ℕ → ℕ) × IsRanked slots.new rank) }
+    ensures logged { IfOk result (λ yes. IsTrue yes → IsLogged slots.old log.old.items slots.new log.new.items) }
+    ensures refused { IfOk result (λ yes. IsFalse yes → (slots.new ≡ slots.old) × (log.new.items ≡ log.old.items)) }
+    ensures err { OnErr result ((slots.new ≡ slots.old) × (log.new.items ≡ log.old.items)) }
+    ensures noted { AreNoted slots.new log.new.items named.new }
+{
+    let before = log.len();
+    match settle(alloc, slots, log, work, named, marks) {
         Ok(true) => Ok(true),
         Ok(false) => {
             roll_back(slots, log, before);
@@ -186,4 +282,36 @@ fn take_in(
             Err(refused)
         }
     }
+}
+
+/// What the demand asks of the slots.
+fn ask_of(alloc: Global, demand: &Demand) -> Result<Ask, AllocError>
+    requires { (n : ℕ) × DemandIn n demand.now }
+    ensures means { IfOk result (λ q. (v : ℕ → Ground) → Holds v demand.now ↔ AskHolds v q) }
+    ensures inside { IfOk result (λ q. (n : ℕ) → DemandIn n demand.now → AskIn n q) }
+{
+    match demand {
+        Demand::Is(a, t) => match slot_of(alloc, t)? {
+            Slot::Root(kind) => Ok(Ask::Is(*a, kind)),
+            Slot::Link(b) => Ok(Ask::Equal(*a, b)),
+        },
+        Demand::Equal(a, b) => Ok(Ask::Equal(*a, *b)),
+        Demand::Train(a, e) => Ok(Ask::Is(*a, Kind::TrainOf(*e))),
+        Demand::Collection(a, e) => Ok(Ask::Is(*a, Kind::CollectionOf(*e))),
+        Demand::NumberOrText(a) => Ok(Ask::Is(*a, Kind::NumberOrText)),
+    }
+}
+
+/// What the demands ask of the slots.
+fn asks_of_all(alloc: Global, demands: &[Demand]) -> Result<Vec<Ask>, AllocError>
+    requires { (n : ℕ) × All (DemandIn n) demands.now }
+    ensures means { IfOk result (λ asks. (v : ℕ → Ground) → MeetsAll v demands.now ↔ AsksHold v asks.items) }
+    ensures inside { IfOk result (λ asks. (n : ℕ) → All (DemandIn n) demands.now → AsksIn n asks.items) }
+{
+    let mut asks = Vec::new(alloc);
+    for i in 0..demands.len() {
+        let ask = ask_of(alloc, &demands[i])?;
+        asks.push(ask)?;
+    }
+    Ok(asks)
 }

@@ -5,7 +5,7 @@ mod rows;
 
 use crate::*;
 use abc_num::OutOfMemory;
-use abc_terms::{Term, VarId};
+use abc_terms::{Demand, Term, VarId};
 use std::alloc::Global;
 use std::process::Abort;
 use std::test::Fail;
@@ -33,11 +33,6 @@ fn calls_are_answered(rt: HostRuntime) -> Result<(), Fail> {
     for &(name, calls) in CALLS {
         play(&rt, rt.alloc(), name, calls)?;
     }
-    Ok(())
-}
-
-#[test]
-fn random_calls_are_answered_as_by_another_unifier(rt: HostRuntime) -> Result<(), Fail> {
     for calls in rows::RANDOM_CALLS {
         play(&rt, rt.alloc(), "random", calls)?;
     }
@@ -123,30 +118,26 @@ fn added(answer: Result<(), UnifyFault>) -> Result<bool, Fail> {
     }
 }
 
-const CHAIN: u32 = 10_000;
+const MANY: u32 = 200_000;
 
-/// Each is a train of the next, the last is text, and the first a list of text.
+const CHAIN: u32 = 100_000;
+
+const CALLS_ON_ONE: u32 = 50_000;
+
+/// None is named by another, so each demand is a step of its own.
 #[test]
-fn a_chain_of_trains_is_solved(rt: HostRuntime) -> Result<(), Fail> {
+fn many_are_numbers_or_texts(rt: HostRuntime) -> Result<(), Fail> {
     let mut graph = Graph::new(rt.alloc());
-    let mut last = graph.fresh()?;
-    let first = last;
-    for _ in 0..CHAIN {
-        let next = graph.fresh()?;
-        assert!(rt; last.0 < graph.count() && next.0 < graph.count());
-        graph.train(last, next)?;
-        last = next;
+    for _ in 0..MANY {
+        let a = graph.fresh()?;
+        assert!(rt; a.0 < graph.count());
+        graph.number_or_text(a)?;
     }
-    let text = graph.node(Term::Text)?;
-    assert!(rt; first.0 < graph.count() && last.0 < graph.count() && text.0 < graph.count());
-    graph.equal(last, text)?;
-    let list = graph.node(Term::list_of(rt.alloc(), text)?)?;
-    assert!(rt; first.0 < graph.count() && list.0 < graph.count());
-    graph.equal(first, list)?;
     Ok(())
 }
 
-/// Each is equal to the next, from the last to the first.
+/// Each is equal to the next, from the last to the first. The links are then one path, at whose end the last one is asked for
+/// again and again.
 #[test]
 fn a_chain_of_equals_is_solved(rt: HostRuntime) -> Result<(), Fail> {
     let mut graph = Graph::new(rt.alloc());
@@ -158,10 +149,16 @@ fn a_chain_of_equals_is_solved(rt: HostRuntime) -> Result<(), Fail> {
         assert!(rt; above < graph.count() && above > 0);
         graph.equal(VarId(above), VarId(above - 1))?;
     }
+    let last = VarId(CHAIN - 1);
+    for _ in 0..CALLS_ON_ONE {
+        let a = graph.fresh()?;
+        assert!(rt; a.0 < graph.count() && last.0 < graph.count());
+        graph.equal(a, last)?;
+    }
     Ok(())
 }
 
-/// The same from the end on.
+/// The last is text, and each is a train of the one that was made before it.
 #[test]
 fn a_chain_of_trains_is_solved_from_its_end(rt: HostRuntime) -> Result<(), Fail> {
     let mut graph = Graph::new(rt.alloc());
@@ -192,5 +189,28 @@ fn undone_demands_are_gone(rt: HostRuntime) -> Result<(), Fail> {
     assert_eq!(rt; text, VarId(2));
     assert!(rt; a.0 < graph.count());
     assert_eq!(rt; graph.equal(a, text), Ok(()));
+    Ok(())
+}
+
+/// The demand names the variables that stand in place of 0 and 1.
+#[test]
+fn a_demand_is_renamed(rt: HostRuntime) -> Result<(), Fail> {
+    let renamed = Demand::Train(VarId(0), VarId(1)).renamed(rt.alloc(), &[VarId(7), VarId(4)])?;
+    match renamed {
+        Demand::Train(a, element) => assert_eq!(rt; (a, element), (VarId(7), VarId(4))),
+        _ => panic!(rt; "another demand"),
+    }
+    Ok(())
+}
+
+/// The forms of a list are its own and that of its element.
+#[test]
+fn forms_lead_on(rt: HostRuntime) -> Result<(), Fail> {
+    let mut graph = Graph::new(rt.alloc());
+    let number = graph.node(Term::Number)?;
+    let list = graph.node(Term::list_of(rt.alloc(), number)?)?;
+    assert!(rt; list.0 < graph.count());
+    let forms = graph.forms(&[list])?;
+    assert_eq!(rt; forms.len(), 2);
     Ok(())
 }

@@ -15,11 +15,11 @@ part_below [] i x h e = absurd (omega arith)
 part_below (y ∷ ys) zero x h e = omega (arith, ap height_of e)
 part_below (y ∷ ys) (suc i) x h e = omega (arith, part_below ys i x (omega arith) e)
 
-pub entry_below : (es : List Entry) (i : ℕ) (d : Entry) → i < length es → (height_of (get_or es i d).key + 1 ≤ pairs_height (pairs (map as_pair es))) × (height_of (get_or es i d).associate + 1 ≤ pairs_height (pairs (map as_pair es)))
-entry_below [] i d h = absurd (omega arith)
-entry_below (y ∷ ys) zero d h = (omega arith, omega arith)
-entry_below (y ∷ ys) (suc i) d h =
-    let p = entry_below ys i d (omega arith) in
+pub entry_below : (es : List Entry) (i : ℕ) (e : Entry) → i < length es → e ≡ get_or es i e → (height_of e.key + 1 ≤ pairs_height (pairs (map as_pair es))) × (height_of e.associate + 1 ≤ pairs_height (pairs (map as_pair es)))
+entry_below [] i e h is = absurd (omega arith)
+entry_below (y ∷ ys) zero e h is = (omega (arith, ap (λ (f : Entry). height_of f.key) is), omega (arith, ap (λ (f : Entry). height_of f.associate) is))
+entry_below (y ∷ ys) (suc i) e h is =
+    let p = entry_below ys i e (omega arith) is in
     (omega (arith, p.0), omega (arith, p.1))
 
 level : (m n : ℕ) → m ≡ n → Equal ≡ nat_cmp m n

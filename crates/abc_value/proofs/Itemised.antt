@@ -114,7 +114,7 @@ fault_in t i n f h e g = not_found (elements_of t) (whole_of i) f (g ∙ ap (λ 
 
 -- the element of the entry at its place
 pub associate_at : (es : List Entry) (k : ℕ) (e : Entry) → k < length es → e ≡ get_or es k e → slice_get (map (λ p. p.1) (listed_pairs (pairs (map as_pair es)))) k ≡ Some e.associate
-associate_at es k e h read = sym (nth_of_associates es es k refl) ∙ ap (option_map (λ (f : Entry). f.associate)) (slice_get_read es (length es) k e refl h read)
+associate_at es k e h read = sym (nth_of_associates es k) ∙ ap (option_map (λ (f : Entry). f.associate)) (slice_get_read es (length es) k e refl h read)
 
 pub associates_count : (es : List Entry) → length (map (λ (p : Tree × Tree). p.1) (listed_pairs (pairs (map as_pair es)))) ≡ length es
 associates_count [] = refl

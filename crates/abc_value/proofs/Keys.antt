@@ -74,8 +74,8 @@ key_between k es =
     let P : ℕ → Type 0 = λ n. Between k (entry_keys es) 0 n in
     subst P (length-map es (λ (e : Entry). e.key)) (between_all k (entry_keys es))
 
-pub key_read : (es : List Entry) (n : ℕ) (d : Entry) → n < length es → (get_or es n d).key ≡ get_or (entry_keys es) n (get_or es n d).key
-key_read es n d inside = sym (get_or-map (λ (f : Entry). f.key) es n d (get_or es n d).key inside)
+pub key_read : (es : List Entry) (n : ℕ) (e : Entry) → n < length es → e ≡ get_or es n e → e.key ≡ get_or (entry_keys es) n e.key
+key_read es n e inside is = ap (λ (f : Entry). f.key) is ∙ sym (get_or-map (λ (f : Entry). f.key) es n e e.key inside)
 
 -- ---- the height of entries, one after the other
 pairs_height_suc : (es : List Entry) (i : ℕ) (e : Entry) → i < length es → e ≡ get_or es i e → pairs_height (pairs (map as_pair (take (suc i) es))) ≡ max (pairs_height (pairs (map as_pair (take i es)))) (max (height_of e.key) (height_of e.associate) + 1)

@@ -1,7 +1,10 @@
 pub mod Adding
 pub mod Appending
+pub mod Collecting
 pub mod Comparing
+pub mod Displayed
 pub mod FiniteDecimals
+pub mod Found
 pub mod Grounds
 pub mod Itemised
 pub mod Joins
@@ -9,15 +12,19 @@ pub mod Keys
 pub mod ByKind
 pub mod Characters
 pub mod LongDivision
+pub mod Lower
 pub mod Making
+pub mod Outers
 pub mod Pairing
 pub mod OrderLaws
 pub mod Placing
 mod PrintedRows
+pub mod ProperForms
 pub mod Ranges
 pub mod Removing
 pub mod RisingKeys
 pub mod Rows
+pub mod ShapeLooks
 pub mod ShapeSteps
 pub mod Shaping
 pub mod Tables

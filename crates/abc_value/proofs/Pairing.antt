@@ -34,6 +34,7 @@ insert_joins k a (p ∷ ps) (suc n) h =
 pub record Replaces (k a b : Tree) (ps qs : List (Tree × Tree)) : Type 0 where
   pub size : length qs ≡ length ps
   pub height : pairs_height (pairs qs) ≤ max (height_of a + 1) (pairs_height (pairs ps))
+  pub others : (rest : ℕ) × (pairs_height (pairs ps) ≡ max (height_of b + 1) rest) × (pairs_height (pairs qs) ≡ max (height_of a + 1) rest)
   pub weight : pairs_weight (pairs qs) + weight_of b ≡ pairs_weight (pairs ps) + weight_of a
   pub regular : IsRegular k → IsRegular a → AllRegularPairs (pairs ps) → AllRegularPairs (pairs qs)
 
@@ -43,15 +44,28 @@ set_replaces k a b [] n p h is first second = absurd (omega arith)
 set_replaces k a b (q ∷ ps) zero p h is first second =
     let key : q.0 ≡ k = ap (λ (x : Tree × Tree). x.0) (sym is) ∙ first in
     let old : q.1 ≡ b = ap (λ (x : Tree × Tree). x.1) (sym is) ∙ second in
-    record { size = omega arith; height = omega (arith, ap height_of key); weight = omega (arith, ap weight_of key, ap weight_of old); regular = λ i j r. (i, j, r.2) }
+    record {
+      size = omega arith;
+      height = omega (arith, ap height_of key);
+      others = (max (height_of k + 1) (pairs_height (pairs ps)), omega (arith, ap height_of key, ap height_of old), omega arith);
+      weight = omega (arith, ap weight_of key, ap weight_of old);
+      regular = λ i j r. (i, j, r.2);
+    }
 set_replaces k a b (q ∷ ps) (suc n) p h is first second =
     let s = set_replaces k a b ps n p (omega arith) is first second in
-    record { size = omega (arith, s.size); height = omega (arith, s.height); weight = omega (arith, s.weight); regular = λ i j r. (r.0, r.1, s.regular i j r.2) }
+    record {
+      size = omega (arith, s.size);
+      height = omega (arith, s.height);
+      others = (max (height_of q.0 + 1) (max (height_of q.1 + 1) s.others.0), omega (arith, s.others.1), omega (arith, s.others.2));
+      weight = omega (arith, s.weight);
+      regular = λ i j r. (r.0, r.1, s.regular i j r.2);
+    }
 
 -- what stands in the table without the pair p
 pub record Loses (p : Tree × Tree) (ps qs : List (Tree × Tree)) : Type 0 where
   pub size : length ps ≡ length qs + 1
   pub height : pairs_height (pairs qs) ≤ pairs_height (pairs ps)
+  pub tall : pairs_height (pairs ps) ≡ max (max (height_of p.0) (height_of p.1) + 1) (pairs_height (pairs qs))
   pub weight : pairs_weight (pairs ps) ≡ weight_of p.0 + weight_of p.1 + pairs_weight (pairs qs)
   pub regular : AllRegularPairs (pairs ps) → AllRegularPairs (pairs qs)
 
@@ -61,10 +75,12 @@ remove_loses p [] n h is = absurd (omega arith)
 remove_loses p (q ∷ ps) zero h is =
     let key : weight_of p.0 ≡ weight_of q.0 = ap (λ (x : Tree × Tree). weight_of x.0) is in
     let old : weight_of p.1 ≡ weight_of q.1 = ap (λ (x : Tree × Tree). weight_of x.1) is in
-    record { size = omega arith; height = omega arith; weight = omega arith; regular = λ r. r.2 }
+    let keys : height_of p.0 ≡ height_of q.0 = ap (λ (x : Tree × Tree). height_of x.0) is in
+    let olds : height_of p.1 ≡ height_of q.1 = ap (λ (x : Tree × Tree). height_of x.1) is in
+    record { size = omega arith; height = omega arith; tall = omega (arith, keys, olds); weight = omega arith; regular = λ r. r.2 }
 remove_loses p (q ∷ ps) (suc n) h is =
     let l = remove_loses p ps n (omega arith) is in
-    record { size = omega (arith, l.size); height = omega (arith, l.height); weight = omega (arith, l.weight); regular = λ r. (r.0, r.1, l.regular r.2) }
+    record { size = omega (arith, l.size); height = omega (arith, l.height); tall = omega (arith, l.tall); weight = omega (arith, l.weight); regular = λ r. (r.0, r.1, l.regular r.2) }
 
 -- ---- the place of the key decides
 answer_at : {A : Type 0} → (r : Ordering) (s : Ordering) (x y z w : A) → r ≡ s → w ≡ match_ordering s x y z → w ≡ match_ordering r x y z

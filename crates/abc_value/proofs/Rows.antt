@@ -1,5 +1,5 @@
 -- Rows of trees and pairs, as lists.
-use Rattle.std.proofs.Common.{◌≡◌, ℕ, zero, suc, List, [], ◌∷◌, length, map, refl, ap, ◌∙◌, slice_get}
+use Rattle.std.proofs.Common.{◌≡◌, ℕ, zero, suc, List, [], ◌∷◌, length, map, refl, ap, slice_get}
 use Rattle.std.specs.Option.{option_map}
 use Rattle.abc_value.specs.Tree.{Tree, Trees, Pairs, trees, listed, pairs, listed_pairs, table_of, no_trees, more, no_pairs, pair}
 use Rattle.abc_value.specs.Sizes.{count, count_pairs}
@@ -36,16 +36,13 @@ count_pairs_pairs [] = refl
 count_pairs_pairs (p ∷ ps) = ap suc (count_pairs_pairs ps)
 
 -- a part of a pair of a table is that of the entry at its place
-nth_of_parts : (part : Tree × Tree → Tree) (es fs : List Entry) (i : ℕ) → es ≡ fs → option_map (λ e. part (as_pair e)) (slice_get es i) ≡ slice_get (map part (listed_pairs (pairs (map as_pair fs)))) i
-nth_of_parts part es fs i e = ap (λ gs. option_map (λ e. part (as_pair e)) (slice_get gs i)) e ∙ at fs i
-  where
-    at : (fs : List Entry) (i : ℕ) → option_map (λ e. part (as_pair e)) (slice_get fs i) ≡ slice_get (map part (listed_pairs (pairs (map as_pair fs)))) i
-    at [] i = refl
-    at (f ∷ fs) zero = refl
-    at (f ∷ fs) (suc i) = at fs i
+nth_of_parts : (part : Tree × Tree → Tree) (es : List Entry) (i : ℕ) → option_map (λ e. part (as_pair e)) (slice_get es i) ≡ slice_get (map part (listed_pairs (pairs (map as_pair es)))) i
+nth_of_parts part [] i = refl
+nth_of_parts part (f ∷ fs) zero = refl
+nth_of_parts part (f ∷ fs) (suc i) = nth_of_parts part fs i
 
-pub nth_of_keys : (es fs : List Entry) (i : ℕ) → es ≡ fs → option_map (λ e. e.key) (slice_get es i) ≡ slice_get (map (λ p. p.0) (listed_pairs (pairs (map as_pair fs)))) i
-nth_of_keys es fs i e = nth_of_parts (λ p. p.0) es fs i e
+pub nth_of_keys : (es : List Entry) (i : ℕ) → option_map (λ e. e.key) (slice_get es i) ≡ slice_get (map (λ p. p.0) (listed_pairs (pairs (map as_pair es)))) i
+nth_of_keys es i = nth_of_parts (λ p. p.0) es i
 
-pub nth_of_associates : (es fs : List Entry) (i : ℕ) → es ≡ fs → option_map (λ e. e.associate) (slice_get es i) ≡ slice_get (map (λ p. p.1) (listed_pairs (pairs (map as_pair fs)))) i
-nth_of_associates es fs i e = nth_of_parts (λ p. p.1) es fs i e
+pub nth_of_associates : (es : List Entry) (i : ℕ) → option_map (λ e. e.associate) (slice_get es i) ≡ slice_get (map (λ p. p.1) (listed_pairs (pairs (map as_pair es)))) i
+nth_of_associates es i = nth_of_parts (λ p. p.1) es i

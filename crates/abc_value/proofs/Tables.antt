@@ -23,7 +23,7 @@ use Rattle.abc_value.proofs.Keys.{firsts, pairs_are, keys_are, map_set, keys_ord
 use Rattle.abc_value.proofs.Pairing.{Joins, insert_joins, insert_placed, Replaces, set_replaces, set_placed, Loses, remove_loses, remove_placed_key, with_pair_rising, remove_rising, found_associate, no_associate}
 
 -- the table of such pairs is a value, if its sizes are within their bounds
-table_regular : (ps : List (Tree × Tree)) → 1 ≤ length ps → IsRising (pairs ps) → AllRegularPairs (pairs ps) → AreSmall (length ps) (pairs_height (pairs ps)) (pairs_weight (pairs ps) + 5) → IsRegular (table (pairs ps))
+pub table_regular : (ps : List (Tree × Tree)) → 1 ≤ length ps → IsRising (pairs ps) → AllRegularPairs (pairs ps) → AreSmall (length ps) (pairs_height (pairs ps)) (pairs_weight (pairs ps) + 5) → IsRegular (table (pairs ps))
 unfolding IsRegular
 table_regular ps some o r s =
     let n = count_pairs_pairs ps in
@@ -132,21 +132,21 @@ others_left k ps qs n is place inside there several =
     get_or_same (p ∷ ps) (suc n) d h = get_or_same ps n d (omega arith)
 
 -- ---- looking up
-pub key_absent : (k : Tree) (ps : List (Tree × Tree)) (n : ℕ) → IsRegular (table (pairs ps)) → IsPlaceOf k (firsts ps) n → (n < length (firsts ps) → order (get_or (firsts ps) n k) k ≢ Equal) → (n < length (firsts ps) → IsRegular k) → None ≡ associate_of k ps
-key_absent k ps n old place absent regular = no_associate k ps other
+pub absent_key : (k : Tree) (ps : List (Tree × Tree)) (n : ℕ) → IsRising (pairs ps) → AllRegularPairs (pairs ps) → IsPlaceOf k (firsts ps) n → (n < length (firsts ps) → order (get_or (firsts ps) n k) k ≢ Equal) → (n < length (firsts ps) → IsRegular k) → None ≡ associate_of k ps
+absent_key k ps n o all place absent regular = no_associate k ps other
   where
-    o : (1 ≤ length ps) × (length ps ≤ MOST_ELEMENTS) × IsRising (pairs ps) × AllRegularPairs (pairs ps)
-    o = regular_pairs ps old
-
     less_not : (i : ℕ) → order (get_or (firsts ps) i k) k ≡ Less → order (get_or (firsts ps) i k) k ≡ Equal → ⊥
     less_not i h e = cc
 
     other : (i : ℕ) → i < length (firsts ps) → order (get_or (firsts ps) i k) k ≢ Equal
     other i h = elim (cases_lt i n) [
       | inl l ↦ less_not i (place.before i l)
-      | inr l ↦ (λ e. nowhere k (firsts ps) n (keys_regular ps o.3) (keys_ordered ps o.2) place absent
-          (i, h, order-same (get_or (firsts ps) i k) k (regular_at (firsts ps) i k (keys_regular ps o.3) h) (regular (omega arith)) e))
+      | inr l ↦ (λ e. nowhere k (firsts ps) n (keys_regular ps all) (keys_ordered ps o) place absent
+          (i, h, order-same (get_or (firsts ps) i k) k (regular_at (firsts ps) i k (keys_regular ps all) h) (regular (omega arith)) e))
     ]
+
+pub key_absent : (k : Tree) (ps : List (Tree × Tree)) (n : ℕ) → IsRegular (table (pairs ps)) → IsPlaceOf k (firsts ps) n → (n < length (firsts ps) → order (get_or (firsts ps) n k) k ≢ Equal) → (n < length (firsts ps) → IsRegular k) → None ≡ associate_of k ps
+key_absent k ps n old place absent regular = let o = regular_pairs ps old in absent_key k ps n o.2 o.3 place absent regular
 
 pub key_found : (k : Tree) (ps : List (Tree × Tree)) (n : ℕ) → IsPlaceOf k (firsts ps) n → n < length ps → get_or (firsts ps) n k ≡ k → IsSome (associate_of k ps)
 key_found k ps n place inside there =

@@ -26,6 +26,11 @@ abbrev pub forms : List Form → Forms
 forms [] = no_forms
 forms (s ∷ ss) = more_forms s (forms ss)
 
+-- two forms or more
+abbrev pub AreSeveral : Forms → Type 0
+AreSeveral (more_forms s (more_forms t ss)) = Unit {0}
+AreSeveral _ = ⊥
+
 abbrev mutual
   -- the type is of the form
   pub fits : Form → Ground → Type 0
@@ -43,6 +48,18 @@ abbrev mutual
   each_fits no_forms (g ∷ gs) = ⊥
   each_fits (more_forms s ss) [] = ⊥
   each_fits (more_forms s ss) (g ∷ gs) = fits s g × each_fits ss gs
+
+abbrev mutual
+  -- each compound in the form has two parts or more
+  pub IsProperForm : Form → Type 0
+  IsProperForm (a_compound ss) = AreSeveral ss × AreProperForms ss
+  IsProperForm (a_list s) = IsProperForm s
+  IsProperForm (a_table k a) = IsProperForm k × IsProperForm a
+  IsProperForm _ = Unit {0}
+
+  pub AreProperForms : Forms → Type 0
+  AreProperForms no_forms = Unit {0}
+  AreProperForms (more_forms s ss) = IsProperForm s × AreProperForms ss
 
 -- no type is of no form
 abbrev pub Fits : Option Form → Ground → Type 0

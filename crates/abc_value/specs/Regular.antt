@@ -1,19 +1,12 @@
 -- Which trees are values.
-use Rattle.std.specs.Prelude.{◌≡◌, ◌≢◌, ℕ, ◌≤◌, List}
-use Rattle.std.specs.List.{AllByRecursion}
+use Rattle.std.specs.Prelude.{◌≡◌, ◌≢◌, ◌≤◌}
 use Rattle.std.specs.declared.cmp.Ordering.TheVariants.{Less, Greater}
-use Rattle.abc_num.specs.declared.limits.TheConstants.{FIRST_CHARACTER, LAST_CHARACTER, MOST_ELEMENTS, MOST_VALUE_HEIGHT, MOST_WEIGHT}
+use Rattle.abc_num.specs.declared.limits.TheConstants.{MOST_ELEMENTS, MOST_VALUE_HEIGHT, MOST_WEIGHT}
+pub use Rattle.abc_num.specs.Characters.{IsCharacter, AreCharacters}
 use Rattle.abc_num.specs.Number.{IsNumber}
 use Rattle.abc_value.specs.Tree.{Tree, Trees, Pairs, number, text, compound, list, table, no_trees, more, no_pairs, pair}
 use Rattle.abc_value.specs.Order.{order}
 use Rattle.abc_value.specs.Sizes.{count, count_pairs, length_of, height_of, weight_of}
-
--- the code of a character
-abbrev pub IsCharacter : ℕ → Type 0
-IsCharacter c = (FIRST_CHARACTER ≤ c) × (c ≤ LAST_CHARACTER)
-
-abbrev pub AreCharacters : List ℕ → Type 0
-AreCharacters b = AllByRecursion IsCharacter b
 
 -- no element is greater than the next
 abbrev pub IsOrdered : Trees → Type 0

@@ -1,10 +1,10 @@
 -- What forms say of types: the laws that 'some types fit these values' rests on.
 use Rattle.std.specs.Prelude.{◌↔◌, List, Option, Some, IsSome}
 use Rattle.abc_num.specs.declared.types.Ground.{Ground}
-use Rattle.abc_num.specs.Types.{IsTrainOf}
+use Rattle.abc_num.specs.Types.{IsTrainOf, IsProper}
 use Rattle.abc_value.specs.Tree.{Tree, trees}
 use Rattle.abc_value.specs.Types.{has, all_have}
-use Rattle.abc_value.specs.Forms.{Form, anything, fits, Fits, joined, form_of, common, elements_form}
+use Rattle.abc_value.specs.Forms.{Form, anything, IsProperForm, fits, Fits, joined, form_of, common, elements_form}
 
 -- a value has the types of its form, and no others
 abbrev pub FormIsExact : Type 0
@@ -17,6 +17,10 @@ JoinIsExact = (s t : Option Form) (g : Ground) → Fits (joined s t) g ↔ (Fits
 -- each form has a type
 abbrev pub FormsHaveTypes : Type 0
 FormsHaveTypes = (s : Form) → (g : Ground) × fits s g
+
+-- A form is proper where each compound in it has two parts or more. It has a proper type.
+abbrev pub FormsHaveProperTypes : Type 0
+FormsHaveProperTypes = (s : Form) → IsProperForm s → (g : Ground) × fits s g × IsProper g
 
 -- some type is had by all of these values exactly where their forms join
 abbrev pub CommonIsExact : Type 0

@@ -58,8 +58,8 @@ fn cmp_all(a: &VecDeque<Value>, b: &VecDeque<Value>) -> Ordering
 
 /// Compares pair by pair, the key first; a proper front is less.
 #[cycle(compare)]
-fn cmp_entries(a: &[Entry], b: &[Entry]) -> Ordering
-    ensures { result ≡ pairs_order (pairs (map as_pair a.now)) (pairs (map as_pair b.now)) }
+fn cmp_entries(a: &VecDeque<Entry>, b: &VecDeque<Entry>) -> Ordering
+    ensures { result ≡ pairs_order (pairs (map as_pair a.now.items)) (pairs (map as_pair b.now.items)) }
 {
     for i in 0..a.len().min(b.len()) {
         match a[i].key.cmp(&b[i].key) {

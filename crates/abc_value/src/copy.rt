@@ -52,15 +52,15 @@ fn copy_all(parts: &VecDeque<Value>) -> Result<VecDeque<Value>, ValueFault>
 }
 
 #[cycle(copy)]
-fn copy_entries(entries: &Vec<Entry>) -> Result<Vec<Entry>, ValueFault>
+fn copy_entries(entries: &VecDeque<Entry>) -> Result<VecDeque<Entry>, ValueFault>
     ensures ok { IfOk result (λ v. v.items ≡ entries.now.items) }
     ensures err { IfErr result (λ f. f ≡ ValueFault.Memory) }
 {
-    let mut all = Vec::new(*entries.allocator());
-    for entry in entries {
-        let key = entry.key.copy()?;
-        let associate = entry.associate.copy()?;
-        all.push(Entry { key, associate })?;
+    let mut all = VecDeque::new(*entries.allocator());
+    for i in 0..entries.len() {
+        let key = entries[i].key.copy()?;
+        let associate = entries[i].associate.copy()?;
+        all.push_back(Entry { key, associate })?;
     }
     Ok(all)
 }

@@ -1,4 +1,5 @@
 //! Why a call on values, or a run, gives no result.
+use abc_num::NumFault;
 use std::alloc::{AllocError, AllocFailed};
 
 /// Why a call on values has no result. What it would have changed is as before.
@@ -114,4 +115,39 @@ pub enum RunFault {
     TooLarge,
     /// There was not enough memory.
     Memory,
+}
+
+impl From<ValueFault> for RunFault {
+    ghost use Rattle.std.specs.Prelude.{◌≡◌};
+    ghost use Rattle.abc_value.specs.Faults.{run_fault_of_value};
+
+    ghost from_gives = { λ fault f. f ≡ run_fault_of_value fault };
+
+    fn from(fault: ValueFault) -> RunFault {
+        match fault {
+            ValueFault::NoElement => RunFault::NoElement,
+            ValueFault::NoKey => RunFault::NoKey,
+            ValueFault::OutOfRange => RunFault::OutOfRange,
+            ValueFault::NotWhole => RunFault::NotWhole,
+            ValueFault::TooLong => RunFault::TooLong,
+            ValueFault::TooDeep => RunFault::TooDeep,
+            ValueFault::TooLarge => RunFault::TooLarge,
+            ValueFault::Memory => RunFault::Memory,
+        }
+    }
+}
+
+impl From<NumFault> for RunFault {
+    ghost use Rattle.std.specs.Prelude.{◌≡◌};
+    ghost use Rattle.abc_value.specs.Faults.{run_fault_of_number};
+
+    ghost from_gives = { λ fault f. f ≡ run_fault_of_number fault };
+
+    fn from(fault: NumFault) -> RunFault {
+        match fault {
+            NumFault::Overflow => RunFault::Overflow,
+            NumFault::DivisionByZero => RunFault::DivisionByZero,
+            NumFault::NotWhole => RunFault::NotWhole,
+        }
+    }
 }

@@ -85,12 +85,12 @@ fn common_shape(alloc: Global, parts: &VecDeque<Value>) -> Result<Option<Shape>,
 
 /// The shape of the types that all keys have.
 #[cycle(form)]
-fn key_shape(alloc: Global, entries: &[Entry]) -> Result<Option<Shape>, OutOfMemory>
-    ensures { IfOk result (λ o. o ≡ common_key (Some anything) (pairs (map as_pair entries.now))) }
+fn key_shape(alloc: Global, entries: &VecDeque<Entry>) -> Result<Option<Shape>, OutOfMemory>
+    ensures { IfOk result (λ o. o ≡ common_key (Some anything) (pairs (map as_pair entries.now.items))) }
 {
     let mut all = Shape::anything();
-    for entry in entries {
-        let Some(next) = shape_with(alloc, &all, &entry.key)? else {
+    for i in 0..entries.len() {
+        let Some(next) = shape_with(alloc, &all, &entries[i].key)? else {
             return Ok(None);
         };
         all = next;
@@ -100,12 +100,12 @@ fn key_shape(alloc: Global, entries: &[Entry]) -> Result<Option<Shape>, OutOfMem
 
 /// The shape of the types that all associates have.
 #[cycle(form)]
-fn associate_shape(alloc: Global, entries: &[Entry]) -> Result<Option<Shape>, OutOfMemory>
-    ensures { IfOk result (λ o. o ≡ common_associate (Some anything) (pairs (map as_pair entries.now))) }
+fn associate_shape(alloc: Global, entries: &VecDeque<Entry>) -> Result<Option<Shape>, OutOfMemory>
+    ensures { IfOk result (λ o. o ≡ common_associate (Some anything) (pairs (map as_pair entries.now.items))) }
 {
     let mut all = Shape::anything();
-    for entry in entries {
-        let Some(next) = shape_with(alloc, &all, &entry.associate)? else {
+    for i in 0..entries.len() {
+        let Some(next) = shape_with(alloc, &all, &entries[i].associate)? else {
             return Ok(None);
         };
         all = next;

@@ -1,17 +1,17 @@
 //! Elements by their number, and ranges of elements.
 ghost use Rattle.std.specs.Prelude.{◌≡◌, ◌<◌, ◌+◌, ◌-◌, ◌^◌, length, ℤ, pos, ◌+ℤ◌, ◌-ℤ◌, unsigned_abs, IfOk, Some, None};
 ghost use Rattle.abc_num.specs.Number.{whole_of, whole_number};
-ghost use Rattle.abc_value.specs.Tree.{number, text, list, trees};
-ghost use Rattle.abc_value.specs.Sizes.{IsMakingOf};
-ghost use Rattle.abc_value.specs.Regular.{IsOrdered, AreCharacters};
+ghost use Rattle.abc_value.specs.Tree.{number};
+ghost use Rattle.abc_value.specs.Regular.{AreCharacters};
 ghost use Rattle.abc_value.specs.Items.{IsAnswer, IsTrain, HaveRange, item_of, range_of, place_in, count_of, number_range, character_range};
 
-use crate::sizes::sized;
+use crate::list::ordered_list;
 use crate::value::Node;
 use crate::{Value, ValueFault};
 use abc_num::Num;
 use abc_num::limits::MOST_ELEMENTS;
 use std::alloc::Global;
+use std::collections::VecDeque;
 
 impl Value {
     /// The i-th element of a text, list or table, in order and counted from 1. NotWhole where `i` isn't whole; OutOfRange
@@ -74,7 +74,7 @@ fn range_of_numbers(alloc: Global, p: i128, q: i128) -> Result<Value, ValueFault
     for k in 0..count as usize {
         items.push(whole_value(p, k))?;
     }
-    ordered_list(items)
+    ordered_list(VecDeque::from_vec(items))
 }
 
 /// How many whole numbers there are from `p` to `q`.
@@ -112,19 +112,5 @@ fn range_of_characters(alloc: Global, b: &[u8], c: &[u8]) -> Result<Value, Value
     for k in 0..(c[0] + 1).saturating_sub(first) {
         items.push(Value::text(alloc, &[first + k])?)?;
     }
-    ordered_list(items)
-}
-
-/// The list of these elements, which stand in order.
-fn ordered_list(items: Vec<Value>) -> Result<Value, ValueFault>
-    requires { IsOrdered (trees items.items) }
-    ensures value { IfOk result (λ v. v ≡ list (trees items.items)) }
-    ensures sizes { IsMakingOf (list (trees items.items)) result }
-{
-    let (elements, height, weight) = sized(items)?;
-    Ok(Value {
-        node: Node::List(elements),
-        height,
-        weight,
-    })
+    ordered_list(VecDeque::from_vec(items))
 }

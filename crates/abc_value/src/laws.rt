@@ -1,7 +1,9 @@
 //! Laws of values, for the crates above.
+ghost use Rattle.abc_value.specs.DisplayLaws.{DepthComesFirst, ReplacedCountsForNothing};
 ghost use Rattle.abc_value.specs.Laws.{OrderIsReflexive, OrderIsTotal, OrderIsAntisymmetric, OrderIsTransitive};
+ghost use Rattle.abc_value.specs.PartLaws.{PartsAreLower, KeysAreLower, FormPartsAreLower, ElementsAreFound};
 ghost use Rattle.abc_value.specs.PrintedLaws.{DecimalsAreExact, DecimalsAreFewest, QuotientsHaveNoDecimals};
-ghost use Rattle.abc_value.specs.ShapeLaws.{FormIsExact, JoinIsExact, FormsHaveTypes, CommonIsExact, ElementsAreExact};
+ghost use Rattle.abc_value.specs.ShapeLaws.{FormIsExact, JoinIsExact, FormsHaveTypes, FormsHaveProperTypes, CommonIsExact, ElementsAreExact};
 
 /// The order of values is total, and two values that are equal in it are one value.
 pub fn order_of_values()
@@ -18,6 +20,7 @@ pub fn shapes_of_values()
     ensures exact { FormIsExact }
     ensures join { JoinIsExact }
     ensures types { FormsHaveTypes }
+    ensures proper { FormsHaveProperTypes }
     ensures common { CommonIsExact }
     ensures elements { ElementsAreExact }
 {}
@@ -27,4 +30,22 @@ pub fn printed_numbers()
     ensures exact { DecimalsAreExact }
     ensures fewest { DecimalsAreFewest }
     ensures quotients { QuotientsHaveNoDecimals }
+{}
+
+/// Whatever goes from a value to its parts and keys, or from a shape to its parts, ends.
+pub fn parts_of_values()
+    ensures parts { PartsAreLower }
+    ensures keys { KeysAreLower }
+    ensures shapes { FormPartsAreLower }
+{}
+
+/// The test of whether a value is one of the elements is exact.
+pub fn elements_are_found()
+    ensures { ElementsAreFound }
+{}
+
+/// Two displays, worked: what `Value::list` and `Value::table` make is one value, and its sizes alone are tested.
+pub fn displays_are_tested_once()
+    ensures deep { DepthComesFirst }
+    ensures replaced { ReplacedCountsForNothing }
 {}

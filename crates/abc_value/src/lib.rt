@@ -19,5 +19,5 @@ mod value;
 
 pub use faults::{PrintFault, RunFault, ValueFault};
 pub use printing::{display_of, text_of};
-pub use shape::Shape;
+pub use shape::{Shape, ShapeKind};
 pub use value::{Kind, Value};

@@ -6,7 +6,7 @@ ghost use Rattle.abc_value.specs.Sizes.{length_of, IsMakingOf};
 ghost use Rattle.abc_value.specs.Regular.{IsRegular, AreCharacters};
 ghost use Rattle.abc_value.specs.Parts.{kind_of, number_of, codes_of, parts_of, keys_of};
 
-use crate::sizes::sized;
+use crate::sizes::sizes_of;
 use crate::value::{Entry, Node};
 use crate::{Kind, Value, ValueFault};
 use abc_num::Num;
@@ -38,7 +38,8 @@ impl Value {
         ensures value { IfOk result (λ v. v ≡ compound (trees fields.items)) }
         ensures sizes { IsMakingOf (compound (trees fields.items)) result }
     {
-        let (parts, height, weight) = sized(fields)?;
+        let parts = VecDeque::from_vec(fields);
+        let (height, weight) = sizes_of(&parts)?;
         Ok(Value {
             node: Node::Compound(parts),
             height,
@@ -123,8 +124,8 @@ fn nth(parts: &VecDeque<Value>, i: usize) -> Option<&Value>
     parts.get(i)
 }
 
-fn nth_key(entries: &[Entry], i: usize) -> Option<&Value>
-    ensures { option_map (λ v. v.now) result ≡ option_map (λ e. e.key) (slice_get entries.now i) }
+fn nth_key(entries: &VecDeque<Entry>, i: usize) -> Option<&Value>
+    ensures { option_map (λ v. v.now) result ≡ option_map (λ e. e.key) (slice_get entries.now.items i) }
 {
     match entries.get(i) {
         Some(entry) => Some(&entry.key),
@@ -132,8 +133,8 @@ fn nth_key(entries: &[Entry], i: usize) -> Option<&Value>
     }
 }
 
-fn nth_associate(entries: &[Entry], i: usize) -> Option<&Value>
-    ensures { option_map (λ v. v.now) result ≡ option_map (λ e. e.associate) (slice_get entries.now i) }
+fn nth_associate(entries: &VecDeque<Entry>, i: usize) -> Option<&Value>
+    ensures { option_map (λ v. v.now) result ≡ option_map (λ e. e.associate) (slice_get entries.now.items i) }
 {
     match entries.get(i) {
         Some(entry) => Some(&entry.associate),

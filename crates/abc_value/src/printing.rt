@@ -3,6 +3,7 @@ ghost use Rattle.std.specs.Prelude.{◌≡◌, ◌≤◌, ◌<◌, length, map, 
 ghost use Rattle.std.specs.List.{flat_map};
 ghost use Rattle.abc_value.specs.Tree.{trees, pairs};
 ghost use Rattle.abc_value.specs.Printed.{number_text, quoted, doubled, joined, pair_display, display, displays, pair_displays, plain, plains, outer};
+ghost use Rattle.abc_value.specs.Regular.{AreCharacters};
 ghost use Rattle.abc_value.specs.inner.Printing.{IsAdded, lead};
 ghost use Rattle.abc_value.specs.View.{as_pair};
 
@@ -17,23 +18,24 @@ use std::collections::VecDeque;
 /// display. TooLong where this is longer than `most` bytes.
 pub fn text_of(alloc: Global, v: &Value, most: usize) -> Result<Vec<u8>, PrintFault>
     ensures text { IfOk result (λ b. b.items ≡ outer v.now) }
+    ensures characters { IfOk result (λ b. AreCharacters b.items) }
     ensures fits { IfOk result (λ _. length (outer v.now) ≤ most) }
     ensures too_long { IsErrOf result PrintFault.TooLong → most < length (outer v.now) }
 {
+    let _height = v.height();
     let mut bytes = Vec::new(alloc);
-    match &v.node {
-        Node::Compound(fields) => add_plains(&mut bytes, fields, most)?,
-        _ => add_plain(&mut bytes, v, most)?,
-    }
+    add_outer(&mut bytes, v, most)?;
     Ok(bytes)
 }
 
 /// The display of the value, which is how a program spells it. TooLong where this is longer than `most` bytes.
 pub fn display_of(alloc: Global, v: &Value, most: usize) -> Result<Vec<u8>, PrintFault>
     ensures text { IfOk result (λ b. b.items ≡ display v.now) }
+    ensures characters { IfOk result (λ b. AreCharacters b.items) }
     ensures fits { IfOk result (λ _. length (display v.now) ≤ most) }
     ensures too_long { IsErrOf result PrintFault.TooLong → most < length (display v.now) }
 {
+    let _height = v.height();
     let mut bytes = Vec::new(alloc);
     add_display(&mut bytes, v, most)?;
     Ok(bytes)
@@ -152,8 +154,8 @@ fn add_displays(
 
 /// Adds the displays of the pairs.
 #[cycle(print)]
-fn add_pairs(bytes: &mut Vec<u8>, entries: &[Entry], most: usize) -> Result<(), PrintFault>
-    ensures { IsAdded bytes.old.items (joined (codes "; ") (pair_displays (pairs (map as_pair entries.now)))) bytes.new.items most result }
+fn add_pairs(bytes: &mut Vec<u8>, entries: &VecDeque<Entry>, most: usize) -> Result<(), PrintFault>
+    ensures { IsAdded bytes.old.items (joined (codes "; ") (pair_displays (pairs (map as_pair entries.now.items)))) bytes.new.items most result }
 {
     for i in 0..entries.len() {
         separate(bytes, b"; ", i, most)?;
@@ -172,6 +174,16 @@ fn add_pair(bytes: &mut Vec<u8>, entry: &Entry, most: usize) -> Result<(), Print
     append(bytes, b"]: ", most)?;
     add_display(bytes, &entry.associate, most)?;
     Ok(())
+}
+
+/// Adds the value as it is written.
+fn add_outer(bytes: &mut Vec<u8>, v: &Value, most: usize) -> Result<(), PrintFault>
+    ensures { IsAdded bytes.old.items (outer v.now) bytes.new.items most result }
+{
+    match &v.node {
+        Node::Compound(fields) => add_plains(bytes, fields, most),
+        _ => add_plain(bytes, v, most),
+    }
 }
 
 /// Adds a text as it is, and any other value as its display.

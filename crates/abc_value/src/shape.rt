@@ -1,10 +1,26 @@
 //! What is known of the types that values have: the test of 'some types fit these values'.
-ghost use Rattle.std.specs.Prelude.{◌≡◌, IfOk};
+ghost use Rattle.std.specs.Prelude.{◌≡◌, [], ◌∷◌, IfOk, slice_get};
+ghost use Rattle.std.specs.Option.{option_map};
 ghost use Rattle.abc_value.specs.Forms.{anything, a_number, a_text, a_collection, a_compound, a_list, a_table, forms, elements_form};
+ghost use Rattle.abc_value.specs.ShapeParts.{shape_kind, shape_parts};
 
 use abc_num::OutOfMemory;
 use std::alloc::Global;
 use std::marker::Model;
+
+/// How the types of a shape are made.
+#[derive(Clone, Copy, PartialEq, Eq, Debug)]
+pub enum ShapeKind {
+    /// Any type.
+    Anything,
+    Number,
+    Text,
+    /// Any list and any table.
+    Collection,
+    Compound,
+    List,
+    Table,
+}
 
 /// The shape of some types: all of them, or those that are made in one way. Contracts see it as a form.
 #[cycle(shape)]
@@ -127,6 +143,34 @@ impl Shape {
         }
     }
 
+    /// How the types of the shape are made.
+    pub fn kind(&self) -> ShapeKind
+        ensures { result ≡ shape_kind self.now }
+    {
+        match &self.node {
+            ShapeNode::Anything => ShapeKind::Anything,
+            ShapeNode::Number => ShapeKind::Number,
+            ShapeNode::Text => ShapeKind::Text,
+            ShapeNode::Collection => ShapeKind::Collection,
+            ShapeNode::Compound(_) => ShapeKind::Compound,
+            ShapeNode::List(_) => ShapeKind::List,
+            ShapeNode::Table(_, _) => ShapeKind::Table,
+        }
+    }
+
+    /// The part at place `i`, counted from 0: the shape of a field of a compound, of the elements of a list, or of the keys and
+    /// of the associates of a table. None where there is no such part.
+    pub fn part(&self, i: usize) -> Option<&Shape>
+        ensures { option_map (λ s. s.now) result ≡ slice_get (shape_parts self.now) i }
+    {
+        match &self.node {
+            ShapeNode::Compound(fields) => nth_shape(fields, i),
+            ShapeNode::List(elements) => first_shape(elements, i),
+            ShapeNode::Table(keys, associates) => column_shape(keys, associates, i),
+            _ => None,
+        }
+    }
+
     /// An equal shape.
     #[cycle(copy_shape)]
     pub fn copy(&self, alloc: Global) -> Result<Shape, OutOfMemory>
@@ -145,6 +189,28 @@ impl Shape {
                 Shape::table(alloc, keys, associates)
             }
         }
+    }
+}
+
+fn nth_shape(shapes: &[Shape], i: usize) -> Option<&Shape>
+    ensures { option_map (λ s. s.now) result ≡ slice_get shapes.now i }
+{
+    shapes.get(i)
+}
+
+fn first_shape(elements: &Shape, i: usize) -> Option<&Shape>
+    ensures { option_map (λ s. s.now) result ≡ slice_get (elements.now ∷ []) i }
+{
+    if i == 0 { Some(elements) } else { None }
+}
+
+fn column_shape<'a>(keys: &'a Shape, associates: &'a Shape, i: usize) -> Option<&'a Shape>
+    ensures { option_map (λ s. s.now) result ≡ slice_get (keys.now ∷ associates.now ∷ []) i }
+{
+    match i {
+        0 => Some(keys),
+        1 => Some(associates),
+        _ => None,
     }
 }
 

@@ -40,7 +40,7 @@ pub(crate) enum Node {
     Text(Vec<u8>),
     Compound(VecDeque<Value>),
     List(VecDeque<Value>),
-    Table(Vec<Entry>),
+    Table(VecDeque<Entry>),
 }
 
 /// A key of a table and its associate.

@@ -1,5 +1,5 @@
 -- What one step of the reading does, whatever is done next.
-use Rattle.std.specs.Prelude.{◌≡◌, ◌≤◌, Result, Ok, Err, ℕ, ◌+◌, List, [], ◌∷◌, Option, Some, None}
+use Rattle.std.specs.Prelude.{◌≡◌, ◌≤◌, Result, Ok, Err, ℕ, ◌+◌, List, [], ◌∷◌, Some, None}
 use Rattle.abc_tree.specs.declared.formulas.Expr.{Expr}
 use Rattle.abc_expressions.specs.declared.fault.FormulaFault.{FormulaFault}
 use Rattle.abc_expressions.specs.declared.fault.FormulaFault.TheVariants as fault
@@ -13,6 +13,7 @@ use Rattle.abc_expressions.specs.declared.frames.Step.TheVariants as step
 use Rattle.abc_expressions.specs.declared.frames.Turn.{Turn}
 use Rattle.abc_expressions.specs.declared.frames.Turn.TheVariants as turn
 use Rattle.abc_expressions.specs.declared.lexemes.Lexeme.{Lexeme}
+use Rattle.abc_expressions.specs.Readings.{Tells}
 use Rattle.abc_expressions.specs.inner.Machine.{Found, Next, reach, within, taken, popped}
 
 -- the machine goes on with a turn, or stops before the tokens that stand here
@@ -60,13 +61,6 @@ Counts most (Err fault) d stack = Unit {0}
 
 -- ---- answers
 
--- the answer is what is found, which the map gives; want of memory says nothing
-abbrev pub Tells : {X Y : Type 0} → (X → Y) → Result X FormulaFault → Option Y → Type 0
-Tells view (Ok x) found = found ≡ Some (view x)
-Tells view (Err fault.BadCommand) found = found ≡ None
-Tells view (Err fault.TooMany) found = ⊥
-Tells view (Err fault.Memory) found = Unit {0}
-
 -- the answer is this value, if there was memory
 abbrev pub Brings : {X : Type 0} → Result X FormulaFault → X → Type 0
 Brings (Ok x) given = given ≡ x
@@ -81,7 +75,3 @@ Gives = Tells (λ (a : Expr). (a, []))
 -- the tree in front, and the tokens behind it
 abbrev pub Finds : Result ExpressionFront FormulaFault → Found → Type 0
 Finds = Tells (λ (front : ExpressionFront). (front.tree, front.rest.now))
-
--- the tree of all tokens
-abbrev pub Answers : Result Expr FormulaFault → Option Expr → Type 0
-Answers = Tells (λ (a : Expr). a)

@@ -1,5 +1,5 @@
 -- The same reading of tests, computed: steps of the code. It is proved to find exactly the test that is spelled; no public clause speaks of it.
-use Rattle.std.specs.Prelude.{ℕ, zero, suc, Bool, true, false, ◌&&◌, List, [], ◌∷◌, ◌++◌, Option, None, Some, codes, if◌then◌else◌}
+use Rattle.std.specs.Prelude.{ℕ, zero, suc, nat_le, Bool, true, false, ◌&&◌, ◌==◌, List, [], ◌∷◌, ◌++◌, length, Option, None, Some, codes, if◌then◌else◌}
 use Rattle.std.specs.Option.{option_map}
 use Rattle.abc_tree.specs.declared.formulas.Bound.{Bound}
 use Rattle.abc_tree.specs.declared.formulas.Bound.TheVariants as b
@@ -26,6 +26,8 @@ use Rattle.abc_formula.specs.declared.test_frames.Place.{Place}
 use Rattle.abc_formula.specs.declared.test_frames.Place.TheVariants as place
 use Rattle.abc_formula.specs.declared.test_frames.Front.{Front}
 use Rattle.abc_formula.specs.declared.test_frames.Front.TheVariants as front
+use Rattle.abc_formula.specs.declared.test_frames.NamesEnd.{NamesEnd}
+use Rattle.abc_formula.specs.declared.test_frames.NamesEnd.TheVariants as end
 use Rattle.abc_formula.specs.declared.test_frames.Behind.{Behind}
 use Rattle.abc_formula.specs.declared.test_frames.Behind.TheVariants as behind
 use Rattle.abc_expressions.specs.Operators.{kind_of}
@@ -52,7 +54,7 @@ abbrev pub Groups : Type 0
 Groups = List (List Bound)
 
 abbrev pub FoundNames : Type 0
-FoundNames = Option (Bound × List Lexeme)
+FoundNames = Option (List Bound × List Lexeme)
 
 abbrev pub Naming : Type 0
 Naming = ℕ → Groups → Bool → FoundNames
@@ -77,20 +79,61 @@ at_name own (t.Text bytes) next d groups = None
 at_name own t.Other next d groups = None
 
 -- behind a name
-abbrev pub behind_name : Sign → Naming → ℕ → Groups → FoundNames
-behind_name s.Comma next d groups = next d groups true
-behind_name s.Close next d (names ∷ outer ∷ groups) = next (suc d) ((outer ++ gathered names ∷ []) ∷ groups) false
-behind_name _ next d groups = None
+abbrev pub behind_name : ℕ → Sign → Naming → ℕ → Groups → FoundNames
+behind_name fewest s.Comma next d groups = next d groups true
+behind_name fewest s.Close next d (names ∷ outer ∷ groups) = if nat_le fewest (length names) then next (suc d) ((outer ++ gathered names ∷ []) ∷ groups) false else None
+behind_name fewest _ next d groups = None
+
+-- whether a token ends names
+abbrev pub ends : NamesEnd → Lexeme → Bool
+ends end.In token = is_keyword (codes "IN") token
+ends end.Close (t.Sign s.Close) = true
+ends end.Close _ = false
+
+-- and where no bracket is open
+abbrev pub is_end : NamesEnd → Lexeme → Groups → Bool
+is_end how token groups = ends how token && (length groups == 1)
 
 abbrev pub names_end : List Lexeme → Groups → FoundNames
-names_end ts (names ∷ []) = Some (gathered names, ts)
+names_end ts (names ∷ []) = Some (names, ts)
 names_end ts _ = None
 
--- the names up to IN; the flag says whether a name is wanted
-unfoldable pub names_in : List (List ℕ) → List Lexeme → Naming
-names_in own [] d groups wants = None
-names_in own (t ∷ ts) d groups true = at_name own t (names_in own ts) d groups
-names_in own (t ∷ ts) d groups false = if is_keyword (codes "IN") t then names_end ts groups else behind_name (sign_of t) (names_in own ts) d groups
+-- the names up to what ends them; the flag says whether a name is wanted
+unfoldable pub names_in : List (List ℕ) → ℕ → NamesEnd → List Lexeme → Naming
+names_in own fewest how [] d groups wants = None
+names_in own fewest how (t ∷ ts) d groups true = at_name own t (names_in own fewest how ts) d groups
+names_in own fewest how (t ∷ ts) d groups false = if is_end how t groups then names_end ts groups else behind_name fewest (sign_of t) (names_in own fewest how ts) d groups
+
+-- names up to IN together
+abbrev pub gathered_found : FoundNames → Option (Bound × List Lexeme)
+gathered_found = made gathered
+
+-- a formal in front: two names or more stand together
+abbrev pub only_several : FoundNames → Option (Bound × List Lexeme)
+only_several (Some ((a ∷ c ∷ more), rest)) = Some (b.Several (a ∷ c ∷ more), rest)
+only_several _ = None
+
+abbrev pub formal_name : Kind → List Lexeme → Option (Bound × List Lexeme)
+formal_name (kind.Own i) ts = Some (b.One (record { 0 = i }), ts)
+formal_name _ ts = None
+
+-- behind ( with so many brackets that may open
+abbrev pub round_formal : List (List ℕ) → ℕ → List Lexeme → Option (Bound × List Lexeme)
+round_formal own zero ts = None
+round_formal own (suc d) ts = only_several (names_in own 2 end.Close ts d ([] ∷ []) true)
+
+abbrev pub at_sign : Sign → Option (Bound × List Lexeme) → Option (Bound × List Lexeme)
+at_sign s.Open found = found
+at_sign _ found = None
+
+abbrev pub formal_in : List (List ℕ) → ℕ → List Lexeme → Option (Bound × List Lexeme)
+formal_in own d [] = None
+formal_in own d (t.Name x ∷ ts) = formal_name (kind_of own x) ts
+formal_in own d (t.Sign sign ∷ ts) = at_sign sign (round_formal own d ts)
+formal_in own d (t.Number bytes ∷ ts) = None
+formal_in own d (t.Keyword x ∷ ts) = None
+formal_in own d (t.Text bytes ∷ ts) = None
+formal_in own d (t.Other ∷ ts) = None
 
 -- ---- one expression, and what follows it
 
@@ -204,8 +247,8 @@ module _ (leaves : Leaves) (own : List (List ℕ)) where
 
   -- behind a quantifier
   abbrev pub quantifies : Reads → Quantifier → ℕ → List Lexeme → FoundTest
-  quantifies next quantifier d ts = onward (names_in own ts d ([] ∷ []) true) (λ names us.
-      onward (expression_of leaves own 1 d us) (λ train vs. has_test next d (test.Quantified quantifier names train) (from_keyword (codes "HAS") vs)))
+  quantifies next quantifier d ts = onward (names_in own 1 end.In ts d ([] ∷ []) true) (λ names us.
+      onward (expression_of leaves own 1 d us) (λ train vs. has_test next d (test.Quantified quantifier (gathered names) train) (from_keyword (codes "HAS") vs)))
 
   abbrev pub from_front : Reads → ℕ → Front → Place → ℕ → List Lexeme → FoundTest
   from_front next n front.Not p d ts = wrapped test.Not (next place.Negated d (rest_of ts))

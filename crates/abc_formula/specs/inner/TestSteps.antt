@@ -1,10 +1,12 @@
 -- What the inner functions for tests do.
 use Rattle.std.specs.Prelude.{◌≡◌, ◌<◌, ◌+◌, ◌≤◌, ℕ, Bool, List, [], ◌∷◌, length, Option, Some, None, Result, Ok, Err, All}
 use Rattle.abc_expressions.specs.Lexemes.{IsSpelled}
+use Rattle.abc_tree.specs.declared.formulas.Bound.{Bound}
 use Rattle.abc_tree.specs.declared.formulas.Test.{Test}
 use Rattle.abc_tree.specs.declared.formulas.Test.TheVariants as test
 use Rattle.abc_expressions.specs.declared.fault.FormulaFault.{FormulaFault}
 use Rattle.abc_expressions.specs.declared.fault.FormulaFault.TheVariants as fault
+use Rattle.abc_formula.specs.declared.binding.BoundFront.{BoundFront}
 use Rattle.abc_formula.specs.declared.bounds.Named.{Named}
 use Rattle.abc_formula.specs.declared.testing.Advance.{Advance}
 use Rattle.abc_formula.specs.declared.testing.Advance.TheVariants as advance
@@ -18,7 +20,7 @@ use Rattle.abc_formula.specs.declared.test_frames.Place.TheVariants as place
 use Rattle.abc_expressions.specs.declared.lexemes.Lexeme.{Lexeme}
 use Rattle.abc_expressions.specs.declared.lexemes.Lexeme.TheVariants as t
 use Rattle.abc_expressions.specs.declared.signs.Sign.TheVariants as s
-use Rattle.abc_expressions.specs.inner.Steps.{Tells}
+use Rattle.abc_expressions.specs.Readings.{Tells}
 use Rattle.abc_formula.specs.inner.TestMachine.{FoundNames, FoundLinks, FoundTest, Groups, Naming, Reads, wrapped}
 
 -- ---- names
@@ -37,6 +39,9 @@ NameCounts (Err fault) d groups e others = Unit {0}
 
 abbrev pub FindsNames : Result Named FormulaFault → FoundNames → Type 0
 FindsNames = Tells (λ (named : Named). (named.names, named.rest.now))
+
+abbrev pub FindsBound : Result BoundFront FormulaFault → Option (Bound × List Lexeme) → Type 0
+FindsBound = Tells (λ (front : BoundFront). (front.bound, front.rest.now))
 
 -- ---- tokens
 
@@ -99,7 +104,3 @@ Begins d machine (Ok opened) = (next : Reads) → machine next ≡ wrapped (wrap
 Begins d machine (Err fault.BadCommand) = (next : Reads) → machine next ≡ None
 Begins d machine (Err fault.TooMany) = ⊥
 Begins d machine (Err fault.Memory) = Unit {0}
-
--- the test of all tokens
-abbrev pub AnswersTest : Result Test FormulaFault → Option Test → Type 0
-AnswersTest = Tells (λ (a : Test). a)

@@ -1,5 +1,5 @@
 -- What the steps of the rows of trains and collections give.
-use Rattle.std.specs.Prelude.{◌≡◌, ℕ, ◌+◌, ◌<◌, pos, List, [], ◌∷◌, length, slice_index_or, Bool, true, Option, None, Some, MatchOption}
+use Rattle.std.specs.Prelude.{◌≡◌, ℕ, zero, suc, ◌+◌, ◌<◌, ◌≤◌, pos, List, [], ◌∷◌, length, slice_index_or, Bool, true, false, Option, None, Some, MatchOption}
 use Rattle.std.specs.declared.cmp.Ordering.{Ordering}
 use Rattle.std.specs.Ordering.{is_lt, is_le, is_gt}
 use Rattle.abc_num.specs.Number.{whole_number}
@@ -49,3 +49,14 @@ IsPlaceOfBest end t xs place = MatchOption place (best_of end xs ≡ None)
 abbrev pub with_word : Tree → List ℕ → Tree
 with_word t [] = t
 with_word t (c ∷ b) = table (pairs (with_pair (number (whole_number (pos (length_of t + 1)))) (text (c ∷ b)) (pairs_of t)))
+
+-- the first n of the elements of a train pass a test, and no others
+pub record IsFront (f : Tree → Bool) (t : Tree) (n : ℕ) : Type 0 where
+  pub within : n ≤ length (elements_of t)
+  pub before : (k : ℕ) → k < n → f (element_at t k) ≡ true
+  pub behind : (k : ℕ) → n ≤ k → k < length (elements_of t) → f (element_at t k) ≡ false
+
+-- the place before another, if there is one
+abbrev pub before : ℕ → Option ℕ
+before zero = None
+before (suc n) = Some n

@@ -11,7 +11,6 @@ use Rattle.abc_print.specs.declared.frames.Mark.{Mark}
 use Rattle.abc_print.specs.declared.frames.Mark.TheVariants as mark
 use Rattle.abc_print.specs.declared.frames.Lexeme.{Lexeme}
 use Rattle.abc_print.specs.declared.frames.Lexeme.TheVariants as lexeme
-use Rattle.abc_print.specs.declared.frames.Pair.{Pair}
 use Rattle.abc_print.specs.declared.frames.Frame.{Frame}
 use Rattle.abc_print.specs.declared.frames.Frame.TheVariants as f
 use Rattle.abc_print.specs.declared.frames.Turn.{Turn}
@@ -22,8 +21,9 @@ use Rattle.abc_print.specs.Literals.{fielded, listed, tabled}
 abbrev pub Next : Type 0
 Next = List Frame → Turn → Option Tree
 
-abbrev pub pair_of : Tree → Tree → Pair
-pair_of k a = record { key = k; associate = a }
+-- a key and its associate
+abbrev pub pair_of : Tree → Tree → Tree × Tree
+pair_of k a = (k, a)
 
 -- what is done with a value that is there
 abbrev pub given : Option Tree → (Tree → Option Tree) → Option Tree

@@ -1,13 +1,27 @@
 -- What a reader holds of the input, and what is left of it.
 use Rattle.std.specs.Prelude.{◌≡◌, ◌≤◌, ℕ, ◌+◌, ◌-◌, Bool, false, List, [], ◌∷◌, ◌++◌, length, take, drop, nat_lt, if◌then◌else◌, Option, MatchOption}
-use Rattle.std.specs.List.{AllByRecursion}
-use Rattle.abc_session.specs.Lines.{Line, line_of, lines_by, cut_at_lf}
-use Rattle.abc_session.specs.declared.line.Line as code
+use Rattle.abc_num.specs.Lines.{HasNoLf, without_cr, raw_line, raw_lines}
+use Rattle.abc_num.specs.declared.lines.RawLine.{RawLine}
+use Rattle.abc_session.specs.declared.line.Gathered.{Gathered}
+use Rattle.abc_session.specs.declared.line.TheConstants.{MOST_GATHERED}
 use Rattle.abc_session.specs.declared.reader.Reader.{Reader}
 
--- the line that the code holds
-abbrev pub shown : code.Line → Line
-shown line = record { text = line.text.items; long = line.long }
+-- the front of a line that is read: its first bytes, and whether there are more
+pub record Front : Type 0 where
+  pub bytes : List ℕ
+  pub more : Bool
+
+-- the front of these bytes, which has one byte more than a line may have, since that may be a CR at its end
+abbrev pub front_of : List ℕ → Front
+front_of bytes = record { bytes = take MOST_GATHERED bytes; more = nat_lt MOST_GATHERED (length bytes) }
+
+-- the front that the code holds
+abbrev pub shown : Gathered → Front
+shown line = record { bytes = line.bytes.items; more = line.more }
+
+-- what the front tells of the text of its line, which has no CR at its end
+abbrev pub text_of : Front → List ℕ
+text_of front = if front.more then front.bytes else without_cr front.bytes
 
 -- the bytes that were taken and not yet used
 abbrev pub pending_of : Reader → List ℕ
@@ -22,37 +36,32 @@ abbrev pub bytes_left : Reader → List ℕ → List ℕ
 bytes_left reader left = pending_of reader ++ take (reader.bound - reader.taken) left
 
 -- the lines that are still to come
-abbrev pub lines_left : Reader → List ℕ → List Line
-lines_left reader left = lines_by (nat_lt (reader.taken + length left) reader.bound) (bytes_left reader left)
-
--- there is no LF among the bytes
-abbrev pub HasNoLf : List ℕ → Type 0
-HasNoLf bytes = AllByRecursion (λ byte. byte ≡ 10 → ⊥) bytes
+abbrev pub lines_left : Reader → List ℕ → List RawLine
+lines_left reader left = raw_lines (nat_lt (reader.taken + length left) reader.bound) (bytes_left reader left)
 
 -- The line grew by a part of the pending bytes: up to an LF, which is used too, or all of them.
-pub record TookPart (old new : List ℕ) (line_old line_new : Line) (found : Bool) : Type 0 where
+pub record TookPart (old new : List ℕ) (line_old line_new : Front) (found : Bool) : Type 0 where
   pub part : List ℕ
   pub no_lf : HasNoLf part
-  pub grows : (bytes : List ℕ) → line_old ≡ line_of bytes → line_new ≡ line_of (bytes ++ part)
+  pub grows : (bytes : List ℕ) → line_old ≡ front_of bytes → line_new ≡ front_of (bytes ++ part)
   pub split : old ≡ part ++ (if found then 10 ∷ new else [])
   pub rest : found ≡ false → new ≡ []
 
--- The next bytes were used, a line and the LF that ends it; so many were taken since.
-pub record UsesLine (pending left : List ℕ) (taken : ℕ) (pending_new left_new : List ℕ) (taken_new : ℕ) (line : Line) : Type 0 where
+-- The next bytes were used, whole lines all of them; so many were taken since.
+pub record UsesLines (pending left : List ℕ) (taken : ℕ) (pending_new left_new : List ℕ) (taken_new : ℕ) (lines : List RawLine) : Type 0 where
   pub bytes : List ℕ
-  pub no_lf : HasNoLf bytes
-  pub line_is : line ≡ line_of bytes
-  pub split : pending ++ left ≡ bytes ++ 10 ∷ (pending_new ++ left_new)
-  pub count : length pending + taken_new ≡ taken + length bytes + 1 + length pending_new
+  pub cut : (ends : Bool) (more : List ℕ) → raw_lines ends (bytes ++ more) ≡ lines ++ raw_lines ends more
+  pub split : pending ++ left ≡ bytes ++ (pending_new ++ left_new)
+  pub count : length pending + taken_new ≡ taken + length bytes + length pending_new
 
 -- with these bytes more taken there is no whole line to serve
 abbrev pub WantsMore : List ℕ → List ℕ → ℕ → ℕ → Type 0
-WantsMore pending left taken taken_now = (more : ℕ) × (taken_now ≡ taken + more) × (more ≤ length left) × (cut_at_lf false (pending ++ take more left) ≡ [])
+WantsMore pending left taken taken_now = (more : ℕ) × (taken_now ≡ taken + more) × (more ≤ length left) × (raw_lines false (pending ++ take more left) ≡ [])
 
 -- a read where no whole line is in hand, and nothing was said since
 abbrev pub AsksMore : List ℕ → List ℕ → ℕ → ℕ → ℕ × ℕ → Type 0
 AsksMore pending left taken spoken ask = WantsMore pending left taken ask.0 × (ask.1 ≡ spoken)
 
--- the line, where it has a byte
-abbrev pub IsLast : code.Line → Option code.Line → Type 0
-IsLast line found = MatchOption found (length line.text.items ≡ 0) (λ last. (last ≡ line) × (length line.text.items ≡ 0 → ⊥))
+-- the line of which this is the front, where it has a byte
+abbrev pub IsLast : Gathered → Option RawLine → Type 0
+IsLast line found = MatchOption found (length line.bytes.items ≡ 0) (λ last. ((bytes : List ℕ) → shown line ≡ front_of bytes → last ≡ raw_line bytes) × (length line.bytes.items ≡ 0 → ⊥))

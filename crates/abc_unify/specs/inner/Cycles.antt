@@ -1,9 +1,9 @@
 -- What the search for a cycle of classes finds.
-use Rattle.std.specs.Prelude.{◌≡◌, ℕ, zero, suc, ◌+◌, ◌*◌, ◌<◌, ◌≤◌, ◌⊎◌, List, [], length, slice_index, slice_index_or}
+use Rattle.std.specs.Prelude.{◌≡◌, ℕ, zero, suc, ◌+◌, ◌*◌, ◌<◌, ◌≤◌, ◌⊎◌, List, [], length, slice_index, slice_index_or, Bool, false}
 use Rattle.std.specs.List.{All, AllPairs, Contains, sum_by}
-use Rattle.abc_num.specs.declared.types.Ground.{Ground, out-Ground}
-use Rattle.abc_num.specs.declared.types.Ground.TheOpen.{Ground-F}
+use Rattle.abc_num.specs.declared.types.Ground.{Ground}
 use Rattle.abc_terms.specs.Sizes.{size}
+use Rattle.abc_unify.specs.Outer.{IsText}
 use Rattle.abc_unify.specs.declared.kind.Kind.{Kind}
 use Rattle.abc_unify.specs.declared.kind.Kind.TheVariants.{Free}
 use Rattle.abc_unify.specs.declared.kind.Slot.{Slot}
@@ -12,10 +12,6 @@ use Rattle.abc_unify.specs.declared.log.Entry.{Entry}
 use Rattle.abc_unify.specs.declared.cycle.Walk.{Walk}
 use Rattle.abc_unify.specs.declared.cycle.Walk.TheVariants.{Cycle, Done}
 use Rattle.abc_unify.specs.inner.Slots.{Meets, IsRoot, IsChild, root_of}
-
--- the type is text
-abbrev pub IsText : Ground → Type 0
-IsText g = out-Ground g ≡ Ground-F.Text
 
 -- along an edge a type gets smaller, or both are text
 abbrev pub LeadsTo : Ground → Ground → Type 0
@@ -56,14 +52,23 @@ pub record IsOnCycle (slots : List Slot) (top : ℕ) : Type 0 where
   pub names_others : (k : Kind) → slice_index_or slots top (Root Free) ≡ Root k → (r : ℕ) × IsBelow slots k r
   pub is_text : (v : ℕ → Ground) → Meets v slots → IsText (v top)
 
+-- the class is done, or no slot names it
+abbrev pub IsPassed : List Bool → List ℕ → ℕ → Type 0
+IsPassed named marks r = (2 ≤ slice_index marks r) ⊎ (slice_index_or named r false ≡ false)
+
 -- what a search from one class says: a cycle, or that this class and those that were done are done
 abbrev pub IsVisit : List Slot → List ℕ → List ℕ → ℕ → Walk → Type 0
 IsVisit slots before marks start (Cycle top) = IsOnCycle slots top
 IsVisit slots before marks start (Done next) = Marked slots marks [] next × (2 ≤ slice_index marks start) × ((i : ℕ) → 2 ≤ slice_index before i → 2 ≤ slice_index marks i)
 
--- all classes that are reached from what was written are done, and no cycle was found
-pub record IsSearched (slots : List Slot) (written : List Entry) : Type 0 where
+-- the same of a search that is made only where slots name the class
+abbrev pub IsTurn : List Slot → List Bool → List ℕ → List ℕ → ℕ → Walk → Type 0
+IsTurn slots named before marks start (Cycle top) = IsOnCycle slots top
+IsTurn slots named before marks start (Done next) = Marked slots marks [] next × IsPassed named marks start × ((i : ℕ) → 2 ≤ slice_index before i → 2 ≤ slice_index marks i)
+
+-- all classes that are reached from what was written are done, but those that no slot names, and no cycle was found
+pub record IsSearched (slots : List Slot) (named : List Bool) (written : List Entry) : Type 0 where
   pub marks : List ℕ
   pub next : ℕ
   pub marked : Marked slots marks [] next
-  pub found : All (λ e. 2 ≤ slice_index marks (root_of slots e.at.0)) written
+  pub found : All (λ e. IsPassed named marks (root_of slots e.at.0)) written

@@ -1,9 +1,11 @@
 -- What a kind says of a type, and what two kinds of one variable come to.
-use Rattle.std.specs.Prelude.{◌≡◌, ℕ, ◌+◌, ◌*◌, ◌<◌, ◌↔◌, List, [], ◌∷◌, map, length}
+use Rattle.std.specs.Prelude.{◌≡◌, ℕ, ◌+◌, ◌*◌, ◌<◌, ◌↔◌, List, [], ◌∷◌, length}
 use Rattle.std.specs.List.{All}
 use Rattle.abc_num.specs.declared.types.Ground.{Ground, out-Ground}
 use Rattle.abc_num.specs.declared.types.Ground.TheOpen.{Ground-F}
 use Rattle.abc_terms.specs.declared.term.VarId.{VarId}
+use Rattle.abc_terms.specs.Nodes.{AreIn}
+use Rattle.abc_unify.specs.Outer.{types, IsTrain, IsCollection, IsPlain}
 use Rattle.abc_unify.specs.declared.kind.Kind.{Kind}
 use Rattle.abc_unify.specs.declared.kind.Kind.TheVariants.{Free, Number, Text, NumberOrText, ListOf, TableOf, TrainOf, CollectionOf, Compound}
 use Rattle.abc_unify.specs.declared.kind.Ask.{Ask}
@@ -12,34 +14,6 @@ use Rattle.abc_unify.specs.declared.kind.Met.{Met}
 use Rattle.abc_unify.specs.declared.kind.Met.TheVariants.{Clash, Keep, Put}
 use Rattle.abc_unify.specs.declared.kind.More.{More}
 use Rattle.abc_unify.specs.declared.kind.More.TheVariants.{Nothing, One, Two, Parts}
-
--- the types of some variables
-abbrev pub types : (ℕ → Ground) → List VarId → List Ground
-types v xs = map (λ x. v x.0) xs
-
--- a type of this outer form is a train of e
-abbrev pub IsTrain : Ground-F Ground → Ground → Type 0
-IsTrain Ground-F.Number e = ⊥
-IsTrain Ground-F.Text e = out-Ground e ≡ Ground-F.Text
-IsTrain (Ground-F.Compound fields) e = ⊥
-IsTrain (Ground-F.List element) e = element ≡ e
-IsTrain (Ground-F.Table key associate) e = associate ≡ e
-
--- a type of this outer form is a list of e, or a table with associates e
-abbrev pub IsCollection : Ground-F Ground → Ground → Type 0
-IsCollection Ground-F.Number e = ⊥
-IsCollection Ground-F.Text e = ⊥
-IsCollection (Ground-F.Compound fields) e = ⊥
-IsCollection (Ground-F.List element) e = element ≡ e
-IsCollection (Ground-F.Table key associate) e = associate ≡ e
-
--- a type of this outer form is number or text
-abbrev pub IsPlain : Ground-F Ground → Type 0
-IsPlain Ground-F.Number = Unit {0}
-IsPlain Ground-F.Text = Unit {0}
-IsPlain (Ground-F.Compound fields) = ⊥
-IsPlain (Ground-F.List element) = ⊥
-IsPlain (Ground-F.Table key associate) = ⊥
 
 -- a type of this outer form is of the kind, where the variables have the types `v`
 abbrev pub Fits : (ℕ → Ground) → Ground-F Ground → Kind → Type 0
@@ -73,11 +47,6 @@ children (TableOf k a) = k ∷ (a ∷ [])
 children (TrainOf e) = e ∷ []
 children (CollectionOf e) = e ∷ []
 children (Compound fields) = fields
-
--- the first n variables have these among them
-abbrev pub AreIn : ℕ → List VarId → Type 0
-AreIn n [] = Unit {0}
-AreIn n (x ∷ xs) = (x.0 < n) × AreIn n xs
 
 -- the kind names only some of the first n variables
 abbrev pub KindIn : ℕ → Kind → Type 0

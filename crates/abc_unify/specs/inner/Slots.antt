@@ -56,6 +56,18 @@ slot_weight (Link b) = 0
 abbrev pub weight : List Slot → List Ask → ℕ
 weight slots work = sum_by slot_weight slots + sum_by ask_weight work
 
+-- two links in a row lead from the one variable to the other
+abbrev pub LeadsPast : List Slot → ℕ → VarId → Type 0
+LeadsPast slots a beyond = (next : VarId) × (slice_index_or slots a (Root Free) ≡ Link next) × (slice_index_or slots next.0 (Root Free) ≡ Link beyond)
+
+-- some links lead further: the same types meet the slots, and no more is to do
+pub record IsShortened (slots slots2 : List Slot) : Type 0 where
+  pub same_length : length slots2 ≡ length slots
+  pub inside : SlotsIn slots2
+  pub onward : (v : ℕ → Ground) → Meets v slots → Meets v slots2
+  pub back : (v : ℕ → Ground) → Meets v slots2 → Meets v slots
+  pub same_weight : sum_by slot_weight slots2 ≡ sum_by slot_weight slots
+
 -- where a link leads, and a root stays
 abbrev pub follow : (ℕ → ℕ) → ℕ → Slot → ℕ
 follow go a (Root k) = a

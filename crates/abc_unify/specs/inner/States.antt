@@ -11,6 +11,7 @@ use Rattle.abc_unify.specs.declared.state.Point.{Point}
 use Rattle.abc_unify.specs.declared.state.State.{State}
 use Rattle.abc_unify.specs.inner.Slots.{Meets, SlotsIn, IsRanked}
 use Rattle.abc_unify.specs.inner.Logs.{rolled, EntryIn}
+use Rattle.abc_unify.specs.inner.Naming.{AreNoted}
 use Rattle.abc_unify.specs.Graphs.{Held, Seen}
 
 -- the slots say what the demands say, and their classes rank
@@ -44,9 +45,10 @@ pub record IsKept (slots : List Slot) (log : List Entry) (demands : List Demand)
   pub past : All (IsPast slots log demands) history
   pub ordered : AllPairs IsBefore history
 
--- the same of a whole state
-abbrev pub IsState : State → Type 0
-IsState s = IsKept s.slots.items s.log.items s.demands.items s.history.items
+-- the same of a whole state, and what slots name is noted
+pub record IsState (s : State) : Type 0 where
+  pub kept : IsKept s.slots.items s.log.items s.demands.items s.history.items
+  pub noted : AreNoted s.slots.items s.log.items s.named.items
 
 -- the point that the lists have come to
 abbrev pub point_at : List Slot → List Entry → List Demand → Point

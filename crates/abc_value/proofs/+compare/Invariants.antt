@@ -15,7 +15,7 @@ abbrev pub invariant-compare::cmp_all-loop-i : goal.invariant-compare::cmp_all-l
 invariant-compare::cmp_all-loop-i l = trees_order (trees l.a.items) (trees l.b.items) ≡ trees_order (trees (drop l.i l.a.items)) (trees (drop l.i l.b.items))
 
 abbrev pub decreases-compare::cmp_entries : goal.decreases-compare::cmp_entries
-decreases-compare::cmp_entries l = 2 * pairs_height (pairs (map as_pair l.a.now))
+decreases-compare::cmp_entries l = 2 * pairs_height (pairs (map as_pair l.a.now.items))
 
 abbrev pub invariant-compare::cmp_entries-loop-i : goal.invariant-compare::cmp_entries-loop-i
-invariant-compare::cmp_entries-loop-i l = pairs_order (pairs (map as_pair l.a)) (pairs (map as_pair l.b)) ≡ pairs_order (pairs (map as_pair (drop l.i l.a))) (pairs (map as_pair (drop l.i l.b)))
+invariant-compare::cmp_entries-loop-i l = pairs_order (pairs (map as_pair l.a.items)) (pairs (map as_pair l.b.items)) ≡ pairs_order (pairs (map as_pair (drop l.i l.a.items))) (pairs (map as_pair (drop l.i l.b.items)))

@@ -16,5 +16,5 @@ invariant-copy::copy_all-loop-i l = l.all.items ≡ take l.i l.parts.items
 abbrev pub decreases-copy::copy_entries : goal.decreases-copy::copy_entries
 decreases-copy::copy_entries l = 2 * pairs_height (pairs (map as_pair l.entries.now.items))
 
-abbrev pub invariant-copy::copy_entries-loop-entry : goal.invariant-copy::copy_entries-loop-entry
-invariant-copy::copy_entries-loop-entry l = l.all.items ≡ take l.entry-index l.entries.items
+abbrev pub invariant-copy::copy_entries-loop-i : goal.invariant-copy::copy_entries-loop-i
+invariant-copy::copy_entries-loop-i l = l.all.items ≡ take l.i l.entries.items

@@ -1,11 +1,10 @@
 use Rattle.std.proofs.Common.{◌≡◌, arith, length, map, sym, ap, ◌∙◌, Some, None}
 use Rattle.abc_value.specs.Tree.{trees, pairs}
-use Rattle.abc_value.specs.Sizes.{height_of, length_of}
+use Rattle.abc_value.specs.Sizes.{length_of}
 use Rattle.std.specs.Option.{option_map}
 use Rattle.std.proofs.lemmas.Bool.Decides.{nat_tests}
 use Rattle.abc_value.proofs.Rows.{count_trees}
 use Rattle.abc_value.specs.Forms.{anything, a_list, form_of, forms_of, common, common_key, common_associate}
-use Rattle.abc_value.specs.declared.value.Entry.{Entry}
 use Rattle.abc_value.specs.View.{node_tree, as_pair}
 use Rattle.abc_value.proofs.Comparing.{part_below, entry_below}
 use Rattle.abc_value.proofs.ShapeSteps.{forms_turn, forms_stop, forms_done, common_stop, key_stop, associate_stop, list_form}
@@ -23,13 +22,13 @@ forming::common_shape-shape_with-requires t c =
 
 pub forming::key_shape-shape_with-requires : goal.forming::key_shape-shape_with-requires
 forming::key_shape-shape_with-requires t c =
-    let below = entry_below c.args.entries.now c.loop-entry.entry-index c.entry-item.result (omega arith) in
-    (omega (arith, below.0, ap (λ (e : Entry). height_of e.key) c.entry-item.is), tt)
+    let below = entry_below c.args.entries.now.items c.loop-i.i c.index.result.now (omega arith) c.index.ensures in
+    (omega (arith, below.0), tt)
 
 pub forming::associate_shape-shape_with-requires : goal.forming::associate_shape-shape_with-requires
 forming::associate_shape-shape_with-requires t c =
-    let below = entry_below c.args.entries.now c.loop-entry.entry-index c.entry-item.result (omega arith) in
-    (omega (arith, below.1, ap (λ (e : Entry). height_of e.associate) c.entry-item.is), tt)
+    let below = entry_below c.args.entries.now.items c.loop-i.i c.index.result.now (omega arith) c.index.ensures in
+    (omega (arith, below.1), tt)
 
 pub forming::shapes_of-returns-in_default : goal.forming::shapes_of-returns-in_default
 forming::shapes_of-returns-in_default t c =
@@ -51,12 +50,12 @@ forming::common_shape-returns-in_default t c =
 
 pub forming::key_shape-returns-in_default : goal.forming::key_shape-returns-in_default
 forming::key_shape-returns-in_default t c =
-    key_stop (common_key (Some anything) (pairs (map as_pair c.args.entries.now))) c.args.entries.now c.loop-entry.all c.loop-entry.entry-index c.entry-item.result c.loop-entry.invariant (omega arith) c.entry-item.is
+    key_stop (common_key (Some anything) (pairs (map as_pair c.args.entries.now.items))) c.args.entries.now.items c.loop-i.all c.loop-i.i c.index.result.now c.loop-i.invariant (omega arith) c.index.ensures
     (sym c.in_default.is ∙ c.in_ok-next.ensures)
 
 pub forming::associate_shape-returns-in_default : goal.forming::associate_shape-returns-in_default
 forming::associate_shape-returns-in_default t c =
-    associate_stop (common_associate (Some anything) (pairs (map as_pair c.args.entries.now))) c.args.entries.now c.loop-entry.all c.loop-entry.entry-index c.entry-item.result c.loop-entry.invariant (omega arith) c.entry-item.is
+    associate_stop (common_associate (Some anything) (pairs (map as_pair c.args.entries.now.items))) c.args.entries.now.items c.loop-i.all c.loop-i.i c.index.result.now c.loop-i.invariant (omega arith) c.index.ensures
     (sym c.in_default.is ∙ c.in_ok-next.ensures)
 
 pub shape::Shape::of-returns-in_ok-list-in-Some-2 : goal.shape::Shape::of-returns-in_ok-list-in-Some-2

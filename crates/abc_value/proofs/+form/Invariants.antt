@@ -19,10 +19,10 @@ abbrev pub decreases-forming::common_shape : goal.decreases-forming::common_shap
 decreases-forming::common_shape l = 3 * trees_height (trees l.parts.now.items)
 
 abbrev pub decreases-forming::key_shape : goal.decreases-forming::key_shape
-decreases-forming::key_shape l = 3 * pairs_height (pairs (map as_pair l.entries.now))
+decreases-forming::key_shape l = 3 * pairs_height (pairs (map as_pair l.entries.now.items))
 
 abbrev pub decreases-forming::associate_shape : goal.decreases-forming::associate_shape
-decreases-forming::associate_shape l = 3 * pairs_height (pairs (map as_pair l.entries.now))
+decreases-forming::associate_shape l = 3 * pairs_height (pairs (map as_pair l.entries.now.items))
 
 abbrev pub invariant-forming::shapes_of-loop-i : goal.invariant-forming::shapes_of-loop-i
 invariant-forming::shapes_of-loop-i l = forms_of (trees l.parts.items) ≡ in_front l.shapes.items (forms_of (trees (drop l.i l.parts.items)))
@@ -30,8 +30,8 @@ invariant-forming::shapes_of-loop-i l = forms_of (trees l.parts.items) ≡ in_fr
 abbrev pub invariant-forming::common_shape-loop-i : goal.invariant-forming::common_shape-loop-i
 invariant-forming::common_shape-loop-i l = common (Some anything) (trees l.parts.items) ≡ common (Some l.all) (trees (drop l.i l.parts.items))
 
-abbrev pub invariant-forming::key_shape-loop-entry : goal.invariant-forming::key_shape-loop-entry
-invariant-forming::key_shape-loop-entry l = common_key (Some anything) (pairs (map as_pair l.entries)) ≡ common_key (Some l.all) (pairs (map as_pair (drop l.entry-index l.entries)))
+abbrev pub invariant-forming::key_shape-loop-i : goal.invariant-forming::key_shape-loop-i
+invariant-forming::key_shape-loop-i l = common_key (Some anything) (pairs (map as_pair l.entries.items)) ≡ common_key (Some l.all) (pairs (map as_pair (drop l.i l.entries.items)))
 
-abbrev pub invariant-forming::associate_shape-loop-entry : goal.invariant-forming::associate_shape-loop-entry
-invariant-forming::associate_shape-loop-entry l = common_associate (Some anything) (pairs (map as_pair l.entries)) ≡ common_associate (Some l.all) (pairs (map as_pair (drop l.entry-index l.entries)))
+abbrev pub invariant-forming::associate_shape-loop-i : goal.invariant-forming::associate_shape-loop-i
+invariant-forming::associate_shape-loop-i l = common_associate (Some anything) (pairs (map as_pair l.entries.items)) ≡ common_associate (Some l.all) (pairs (map as_pair (drop l.i l.entries.items)))

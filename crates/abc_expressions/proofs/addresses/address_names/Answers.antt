@@ -10,5 +10,5 @@ lexemes_of-requires c = within_part c.args.line.now c.args.toks.now c.requires.p
 
 pub names_outside-requires : goal.names_outside-requires
 names_outside-requires c =
-    let same : length c.as_slice.result.now ≡ length c.args.toks.now = ap length (c.as_slice.ensures ∙ c.in_ok-lexemes.ensures) ∙ length-map c.args.toks.now (seen c.args.line.now) in
+    let same : length c.as_slice.result.now ≡ length c.args.toks.now = ap length (c.as_slice.ensures ∙ c.in_ok-lexemes.ensures.seen) ∙ length-map c.args.toks.now (seen c.args.line.now) in
     omega (arith, same, few_tokens c.args.line.now c.args.toks.now c.requires.part, c.requires.short)

@@ -10,11 +10,11 @@ lexemes_of-requires c = subst (All (IsWithin c.args.bytes.now)) (sym c.deref.ens
 
 pub returns-in_ok-lexemes_of-in-Ok-clause-found : goal.returns-in_ok-lexemes_of-in-Ok-clause-found
 returns-in_ok-lexemes_of-in-Ok-clause-found c =
-    ap Some (c.in_ok-lexemes_of-in-Ok.ensures ∙ ap (map (seen c.args.bytes.now)) c.deref.ensures.value) ∙ sym (lexed_found c.one_reading.ensures c.args.bytes.now c.in-Ok.tokens.items c.in-Ok.ensures.found)
+    ap Some (c.in_ok-lexemes_of-in-Ok.ensures.seen ∙ ap (map (seen c.args.bytes.now)) c.deref.ensures.value) ∙ sym (lexed_found c.one_reading.ensures c.args.bytes.now c.in-Ok.tokens.items c.in-Ok.ensures.found)
 
 pub returns-in_ok-lexemes_of-in-Ok-clause-spelled : goal.returns-in_ok-lexemes_of-in-Ok-clause-spelled
 returns-in_ok-lexemes_of-in-Ok-clause-spelled c =
-    subst (All IsSpelled) (sym (c.in_ok-lexemes_of-in-Ok.ensures ∙ ap (map (seen c.args.bytes.now)) c.deref.ensures.value)) (spelled_line c.args.bytes.now c.in-Ok.tokens.items c.in-Ok.ensures.found)
+    subst (All IsSpelled) (sym (c.in_ok-lexemes_of-in-Ok.ensures.seen ∙ ap (map (seen c.args.bytes.now)) c.deref.ensures.value)) (spelled_line c.args.bytes.now c.in-Ok.tokens.items c.in-Ok.ensures.found)
 
 pub returns-in-Err-BadByte-clause-found : goal.returns-in-Err-BadByte-clause-found
 returns-in-Err-BadByte-clause-found c = sym (no_lexemes c.one_reading.ensures c.args.bytes.now BadByte (rw c.in-Err-BadByte.field-0-is at c.in-Err-BadByte.ensures.fault) (λ e. cc))

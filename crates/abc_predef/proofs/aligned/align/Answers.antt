@@ -2,7 +2,7 @@ use Rattle.std.proofs.Common.{◌≡◌, ◌-◌, length, sym, ap, ◌∙◌, su
 use Rattle.abc_value.specs.Printed.{outer}
 use Rattle.abc_value.specs.Regular.{AreCharacters}
 use Rattle.abc_predef.specs.Aligned.{left_share, padded}
-use Rattle.abc_predef.proofs.Outers.{between_characters}
+use Rattle.abc_predef.proofs.Spaces.{between_characters}
 use Rattle.abc_predef.proofs.aligned.align.Goals as goal
 
 pub short_text-requires-clause-characters : goal.short_text-requires-clause-characters

@@ -4,7 +4,7 @@ use Rattle.abc_predef.proofs.Halves.{sides_count}
 use Rattle.abc_predef.proofs.trains.count.Goals as goal
 
 pub overflow_sub-result : goal.overflow_sub-result
-overflow_sub-result c = omega (arith, c.count_on.ensures, c.count_on-in-List.ensures, sides_count c.args.e.now (elements_of c.args.t.now))
+overflow_sub-result c = omega (arith, c.count_on.ensures.count, c.count_on-in-List.ensures.count, sides_count c.args.e.now (elements_of c.args.t.now))
 
 pub returns-in-List : goal.returns-in-List
-returns-in-List c = omega (arith, c.count_on.ensures, c.count_on-in-List.ensures, sides_count c.args.e.now (elements_of c.args.t.now))
+returns-in-List c = omega (arith, c.count_on.ensures.count, c.count_on-in-List.ensures.count, sides_count c.args.e.now (elements_of c.args.t.now))

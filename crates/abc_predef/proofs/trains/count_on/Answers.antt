@@ -5,6 +5,7 @@ use Rattle.abc_predef.specs.inner.Places.{is_on}
 use Rattle.abc_value.proofs.Itemised.{elements_count}
 use Rattle.abc_predef.proofs.Elements.{list_is_train, list_part_there, list_part_is, list_elements}
 use Rattle.abc_predef.proofs.Halves.{between_all, move_low, move_high, halves_met}
+use Rattle.abc_predef.proofs.Ends.{front_met}
 use Rattle.abc_predef.proofs.trains.count_on.Goals as goal
 
 pub loop-low-init : goal.loop-low-init
@@ -33,5 +34,8 @@ loop-low-preserved c =
     (list_part_is c.args.t.now m c.in-Some.part.now c.args.e.now c.requires (sym c.part.ensures ∙ ap (option_map (λ v. v.now)) c.in-Some.is))
     (ap (λ o. is_on c.args.side o) (sym c.cmp.ensures.order) ∙ sym c.is_on.ensures ∙ c.if-is_on.false)
 
-pub returns : goal.returns
-returns c = halves_met c.args.side c.args.e.now (elements_of c.args.t.now) c.loop-low.low c.loop-low.high c.loop-low.invariant (omega arith)
+pub returns-clause-count : goal.returns-clause-count
+returns-clause-count c = halves_met c.args.side c.args.e.now (elements_of c.args.t.now) c.loop-low.low c.loop-low.high c.loop-low.invariant (omega arith)
+
+pub returns-clause-front : goal.returns-clause-front
+returns-clause-front c = front_met c.args.side c.args.e.now c.args.t.now c.loop-low.low c.loop-low.high c.loop-low.invariant (omega arith)

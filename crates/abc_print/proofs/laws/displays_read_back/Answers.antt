@@ -1,4 +1,5 @@
 use Rattle.abc_print.proofs.Displays.{displays_read_back}
+use Rattle.abc_print.proofs.Computing.{line_is}
 use Rattle.abc_print.proofs.OneValue.{spells_once}
 use Rattle.abc_print.proofs.laws.displays_read_back.Goals as goal
 
@@ -7,3 +8,6 @@ returns-clause-back c = displays_read_back c.one_reading.ensures
 
 pub returns-clause-only : goal.returns-clause-only
 returns-clause-only c = spells_once
+
+pub returns-clause-computed : goal.returns-clause-computed
+returns-clause-computed c = line_is c.computed_tokens.ensures.tokens

@@ -1,7 +1,6 @@
 use Rattle.std.proofs.Common.{◌∙◌, sym, ap}
 use Rattle.abc_outside.specs.Stop.{Leaves, IsQuiet}
-use Rattle.abc_outside.proofs.Points.{commit_then_say}
-use Rattle.abc_session.specs.inner.Reading.{shown}
+use Rattle.abc_turns.proofs.Points.{commit_then_say}
 use Rattle.abc_session.specs.Session.{Outcome, outcome}
 use Rattle.abc_session.specs.Serving.{work_of, OpensTo, IsItemStop}
 use Rattle.abc_session.proofs.Outcomes.{saying_stops}
@@ -12,10 +11,10 @@ use Rattle.abc_session.proofs.serve.serve_item.Goals as goal
 -- the commit, and then the saying
 served : (g : Over) (c : After-say_all g) → g.H.Host.tells_image → g.H.Host.tells_said → IsQuiet g.H.Host.clock g.H.Host.stopped c.args.host.now (g.H.Host.now c.args.host.now).image
     → Leaves g.H.Host.clock g.H.Host.stopped c.args.host.now c.say_all.new.host
-    (IsItemStop c.args.store.now.journal.bounds.image c.args.k (work_of c.args.store.now) (shown c.args.line.now) (g.H.Host.now c.args.host.now).said)
+    (IsItemStop c.args.store.now.journal.bounds c.args.k (work_of c.args.store.now) c.args.line.now (g.H.Host.now c.args.host.now).said)
 served g c told told_said quiet =
     let work = work_of c.args.store.now in
-    let out = outcome c.args.store.now.journal.bounds.image c.args.k work (shown c.args.line.now) in
+    let out = outcome c.args.store.now.journal.bounds c.args.k work c.args.line.now in
     let is = c.in_ok-reply.ensures.outcome in
     commit_then_say g.H.Host.clock g.H.Host.stopped OpensTo c.args.host.now c.answer.new.host c.say_all.new.host work out.work out.reply (g.H.Host.now c.args.host.now).said
     (c.answer.ensures.stops told quiet (g.met.H.Host.says_now c.args.host.now))

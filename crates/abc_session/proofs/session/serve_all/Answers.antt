@@ -1,39 +1,59 @@
-use Rattle.std.proofs.Common.{rules, ◌∙◌, suc, length, sym, ap, subst}
+use Rattle.std.proofs.Common.{rules, ◌≡◌, ◌∙◌, suc, length, false, refl, subst}
 use Rattle.std.proofs.lemmas.Bool.{false_from_ne_true}
 use Rattle.abc_journal.specs.declared.layout.Bounds.{Bounds}
-use Rattle.abc_outside.proofs.Points.{all_said, last_after}
-use Rattle.abc_session.specs.Lines.{items_of, lines_of}
-use Rattle.abc_session.specs.Serving.{work_of}
-use Rattle.abc_session.proofs.Turns.{then_turn, then_stops, works_all}
-use Rattle.abc_outside.specs.Session.{IsBroken, IsCutShort}
 use Rattle.abc_outside.specs.Stop.{Leaves, IsQuiet}
-use Rattle.abc_outside.proofs.Endings.{between_later, broken_later, cut_later}
-use Rattle.abc_session.specs.inner.Reading.{lines_left}
-use Rattle.abc_session.specs.Session.{replies}
-use Rattle.abc_session.specs.Serving.{works, OpensTo, IsSessionPoint}
-use Rattle.abc_session.specs.Settled.{AsksSettled, IsBeforeLine}
+use Rattle.abc_turns.specs.Session.{Session, replies, works}
+use Rattle.abc_turns.specs.Stops.{HasServed, IsBroken, IsCutShort}
+use Rattle.abc_turns.proofs.Endings.{between_later, broken_later, cut_later}
 use Rattle.abc_session.specs.Asking.{Asked, AskedRising, next_ask}
+use Rattle.abc_session.specs.Session.{Work, session_of}
+use Rattle.abc_session.specs.Serving.{work_of, OpensTo, IsSessionPoint}
+use Rattle.abc_session.specs.Settled.{AsksSettled}
+use Rattle.abc_session.specs.inner.Place.{Place, start_place, place_at, session_at, WentOn}
 use Rattle.abc_session.proofs.Asks.{rising_then, rising_ends}
-use Rattle.abc_session.proofs.Places.{turn_asks, waits}
 use Rattle.abc_session.proofs.Broken.{told_served, idle_between}
+use Rattle.abc_session.proofs.Places.{begins, went_then, went_on, waits, waits_on, turn_asks, said_all, kept_all, ended_all}
+use Rattle.abc_session.proofs.Turns.{then_stops}
 use Rattle.abc_session.proofs.session.serve_all.Given.{Over}
 use Rattle.abc_session.proofs.session.serve_all.Goals.{After-turn}
 use Rattle.abc_session.proofs.session.serve_all.Goals as goal
 
+-- where the loop stands
+abbrev here : (g : Over) → After-turn g → Place
+here g c = place_at c.items.served (work_of c.items.store) c.items.reader (g.H.Host.now c.items.host)
+
+abbrev limit : (g : Over) → After-turn g → Bounds
+limit g c = c.args.store.now.journal.bounds
+
+abbrev whole : (g : Over) → After-turn g → Session Work
+whole g c = session_of (limit g c) (work_of c.args.store.now) (g.H.Host.now c.args.host.now).left
+
+-- what the clauses of the turn say of the bounds of its store is so of the bounds at the start
+of_bounds : (g : Over) (c : After-turn g) (P : Bounds → Type 0) → P c.items.store.journal.bounds → P (limit g c)
+of_bounds g c P p = subst (λ (b : Bounds). P b) c.items.invariant.bounds p
+
+-- the items so far were served, and those from here on are left
+served_on : (g : Over) (c : After-turn g) → g.H.Host.tells_input
+    → HasServed (works (work_of c.args.store.now) (whole g c)) (replies (whole g c)) (works (work_of c.items.store) (session_at (limit g c) (here g c))) (replies (session_at (limit g c) (here g c)))
+    g.H.Host.tells_said (g.H.Host.now c.args.host.now).said (g.H.Host.now c.items.host).said
+served_on g c told = went_on (limit g c) (work_of c.args.store.now) (g.H.Host.now c.args.host.now) g.H.Host.tells_said (here g c) (c.items.invariant.went told)
+
 -- a turn more
 stops_on : (g : Over) (c : After-turn g) → g.H.Host.tells_image → g.H.Host.tells_said → g.H.Host.tells_input → IsQuiet g.H.Host.clock g.H.Host.stopped c.args.host.now (g.H.Host.now c.args.host.now).image
-    → Leaves g.H.Host.clock g.H.Host.stopped c.args.host.now c.turn.new.host
-    (IsSessionPoint c.args.store.now.journal.bounds.image 1 (work_of c.args.store.now) (items_of (lines_of c.args.bound (g.H.Host.now c.args.host.now).left)) (g.H.Host.now c.args.host.now).said)
+    → Leaves g.H.Host.clock g.H.Host.stopped c.args.host.now c.turn.new.host (IsSessionPoint (work_of c.args.store.now) (whole g c) (g.H.Host.now c.args.host.now).said)
 stops_on g c told told_said told_input quiet =
     let i = c.items.invariant in
-    then_stops g.H.Host.clock g.H.Host.stopped c.args.host.now c.items.host c.turn.new.host _ _ _ _ _ _ _ _ _ _ (ap (λ (b : Bounds). b.image) i.bounds) (i.done told_input) told_said (i.stops told told_said told_input quiet) (c.turn.ensures.stops told told_said told_input (i.quiet told quiet))
+    then_stops g.H.Host.clock g.H.Host.stopped c.args.host.now c.items.host c.turn.new.host (work_of c.args.store.now) (work_of c.items.store) (whole g c) (session_at (limit g c) (here g c)) g.H.Host.tells_said
+    (g.H.Host.now c.args.host.now).said (g.H.Host.now c.items.host).said (served_on g c told_input) told_said (i.stops told told_said told_input quiet)
+    (of_bounds g c (λ b. Leaves g.H.Host.clock g.H.Host.stopped c.items.host c.turn.new.host (IsSessionPoint (work_of c.items.store) (session_at b (here g c)) (g.H.Host.now c.items.host).said))
+    (c.turn.ensures.stops told told_said told_input (i.quiet told quiet)))
 
 asks_on : (g : Over) (c : After-turn g) → g.H.Host.tells_said → g.H.Host.tells_input
-    → Asked (AsksSettled c.args.store.now.journal.bounds.image (work_of c.args.store.now) (g.H.Host.now c.args.host.now).left (length (g.H.Host.now c.args.host.now).said)) (g.H.Host.now c.args.host.now).asked (g.H.Host.now c.turn.new.host).asked
+    → Asked (AsksSettled (limit g c) (work_of c.args.store.now) (g.H.Host.now c.args.host.now).left (length (g.H.Host.now c.args.host.now).said)) (g.H.Host.now c.args.host.now).asked (g.H.Host.now c.turn.new.host).asked
 asks_on g c told_said told =
     let i = c.items.invariant in
-    turn_asks c.args.store.now.journal.bounds.image (work_of c.args.store.now) (g.H.Host.now c.args.host.now).left (g.H.Host.now c.args.host.now).said g.H.Host.tells_said c.items.served (work_of c.items.store) c.items.reader (g.H.Host.now c.items.host)
-    (g.H.Host.now c.args.host.now).asked (g.H.Host.now c.items.host).asked (g.H.Host.now c.turn.new.host).asked told_said (i.before told) c.turn.ensures.ended_asks (c.turn.ensures.asked told_said told) (i.asked told_said told)
+    turn_asks (limit g c) (work_of c.args.store.now) (g.H.Host.now c.args.host.now) g.H.Host.tells_said (here g c)
+    (g.H.Host.now c.args.host.now).asked (g.H.Host.now c.items.host).asked (g.H.Host.now c.turn.new.host).asked told_said (i.went told) c.turn.ensures.ended_asks (c.turn.ensures.asked told_said told) (i.asked told_said told)
 
 rises_on : (g : Over) (c : After-turn g) → g.H.Host.tells_said → AskedRising 0 (next_ask c.turn.new.reader.taken c.turn.new.reader.ended) (g.H.Host.now c.args.host.now).asked (g.H.Host.now c.turn.new.host).asked
 rises_on g c told =
@@ -43,6 +63,40 @@ rises_on g c told =
 rises_to_end : (g : Over) (c : After-turn g) → g.H.Host.tells_said → AskedRising 0 (suc (g.H.Host.now c.turn.new.host).taken) (g.H.Host.now c.args.host.now).asked (g.H.Host.now c.turn.new.host).asked
 rises_to_end g c told =
     rising_ends 0 c.turn.new.reader.taken (g.H.Host.now c.turn.new.host).taken c.turn.new.reader.ended (g.H.Host.now c.args.host.now).asked (g.H.Host.now c.turn.new.host).asked c.turn.ensures.counts (rises_on g c told)
+
+-- the input that has ended once stays so
+still_open : (g : Over) (c : After-turn g) → c.turn.new.reader.ended ≡ false → c.items.reader.ended ≡ false
+still_open g c going = false_from_ne_true c.items.reader.ended (λ is. absurd (cc (c.turn.ensures.stays_ended is, going)))
+
+-- all that was done up to the end of this turn
+went_all : (g : Over) (c : After-turn g) → g.H.Host.tells_input
+    → WentOn c.items.store.journal.bounds g.H.Host.tells_said (here g c) (place_at c.turn.new.served (work_of c.turn.new.store) c.turn.new.reader (g.H.Host.now c.turn.new.host))
+    → WentOn (limit g c) g.H.Host.tells_said (start_place (work_of c.args.store.now) (limit g c).input (g.H.Host.now c.args.host.now)) (place_at c.turn.new.served (work_of c.turn.new.store) c.turn.new.reader (g.H.Host.now c.turn.new.host))
+went_all g c told goes =
+    went_then (limit g c) g.H.Host.tells_said (start_place (work_of c.args.store.now) (limit g c).input (g.H.Host.now c.args.host.now)) (here g c)
+    (place_at c.turn.new.served (work_of c.turn.new.store) c.turn.new.reader (g.H.Host.now c.turn.new.host)) (c.items.invariant.went told)
+    (of_bounds g c (λ b. WentOn b g.H.Host.tells_said (here g c) (place_at c.turn.new.served (work_of c.turn.new.store) c.turn.new.reader (g.H.Host.now c.turn.new.host))) goes)
+    (still_open g c)
+
+pub items-init : goal.items-init
+items-init g c = record {
+  sound = search rules;
+  bounds = search rules;
+  input_bound = search rules;
+  holds = search rules;
+  counts = search rules;
+  total = search rules;
+  ended = search rules;
+  counted = search rules;
+  went = λ told. begins _ _ (work_of c.args.store.now) c.args.store.now.journal.bounds.input (g.H.Host.now c.args.host.now) c.new-reader.result c.new-reader.ensures.pending c.new-reader.ensures.taken (c.new-reader.ensures.bound ∙ c.requires.same_bound) c.new-reader.ensures.ended;
+  asked = search rules;
+  asks_rise = search rules;
+  stops = search rules;
+  quiet = search rules;
+  chosen = search rules;
+  none_fell = search rules;
+  faultless = search rules;
+}
 
 pub items-preserved : goal.items-preserved
 items-preserved g c =
@@ -56,12 +110,7 @@ items-preserved g c =
       total = λ told. c.turn.ensures.total told ∙ i.total told;
       ended = λ told. c.in_ok-turn.ensures.ended told;
       counted = search rules;
-      done = λ told. then_turn _ _ _ _ _ _ _ _ _ _ _ _ _ _ _ (ap (λ (b : Bounds). b.image) i.bounds) (i.done told) (rw c.if-branch.true at (c.in_ok-turn.ensures.goes_on told));
-      before = λ told ended.
-          subst (λ (b : Bounds). IsBeforeLine b.image (work_of c.args.store.now) (g.H.Host.now c.args.host.now).left (g.H.Host.now c.args.host.now).said g.H.Host.tells_said c.turn.new.served (work_of c.turn.new.store) c.turn.new.reader (g.H.Host.now c.turn.new.host)) i.bounds
-          (c.turn.ensures.before told (work_of c.args.store.now) (g.H.Host.now c.args.host.now).left (g.H.Host.now c.args.host.now).said
-          (subst (λ (b : Bounds). IsBeforeLine b.image (work_of c.args.store.now) (g.H.Host.now c.args.host.now).left (g.H.Host.now c.args.host.now).said g.H.Host.tells_said c.items.served (work_of c.items.store) c.items.reader (g.H.Host.now c.items.host)) (sym i.bounds)
-          (i.before told (false_from_ne_true c.items.reader.ended (λ is. absurd (cc (c.turn.ensures.stays_ended is, ended)))))) (search rules) ended);
+      went = λ told. went_all g (goal.at.items-preserved g c).After-turn told (c.in_ok-turn.ensures.goes_on told);
       asked = λ told_said told. asks_on g (goal.at.items-preserved g c).After-turn told_said told;
       asks_rise = λ told. rises_on g (goal.at.items-preserved g c).After-turn told;
       stops = λ told told_said told_input quiet. stops_on g (goal.at.items-preserved g c).After-turn told told_said told_input quiet;
@@ -79,15 +128,19 @@ returns-clause-stops g c told told_said told_input quiet = stops_on g (goal.at.r
 
 pub returns-clause-said : goal.returns-clause-said
 returns-clause-said g c told_said told =
-    let i = c.items.invariant in
-    let all = then_turn _ _ _ _ _ _ _ _ _ _ _ _ _ _ _ (ap (λ (b : Bounds). b.image) i.bounds) (i.done told) (rw c.if-branch.false at (c.in_ok-turn.ensures.goes_on told)) in
-    all_said _ _ _ _ _ _ all told_said
+    said_all (limit g (goal.at.returns-clause-said g c).After-turn) (work_of c.args.store.now) (g.H.Host.now c.args.host.now) g.H.Host.tells_said _ (went_all g (goal.at.returns-clause-said g c).After-turn told (c.in_ok-turn.ensures.goes_on told))
+    (c.turn.ensures.over told (search rules)) told_said
 
 pub returns-clause-work : goal.returns-clause-work
 returns-clause-work g c told =
-    let i = c.items.invariant in
-    let all = then_turn _ _ _ _ _ _ _ _ _ _ _ _ _ _ _ (ap (λ (b : Bounds). b.image) i.bounds) (i.done told) (rw c.if-branch.false at (c.in_ok-turn.ensures.goes_on told)) in
-    last_after _ _ _ _ _ _ all ∙ works_all c.args.store.now.journal.bounds.image 1 (work_of c.args.store.now) (items_of (lines_of c.args.bound (g.H.Host.now c.args.host.now).left))
+    kept_all (limit g (goal.at.returns-clause-work g c).After-turn) (work_of c.args.store.now) (g.H.Host.now c.args.host.now) g.H.Host.tells_said _ (went_all g (goal.at.returns-clause-work g c).After-turn told (c.in_ok-turn.ensures.goes_on told))
+    (c.turn.ensures.over told (search rules))
+
+pub returns-clause-ended : goal.returns-clause-ended
+returns-clause-ended g c told =
+    ended_all (limit g (goal.at.returns-clause-ended g c).After-turn) (work_of c.args.store.now) (g.H.Host.now c.args.host.now) g.H.Host.tells_said
+    (place_at c.turn.new.served (work_of c.turn.new.store) c.turn.new.reader (g.H.Host.now c.turn.new.host)) (went_all g (goal.at.returns-clause-ended g c).After-turn told (c.in_ok-turn.ensures.goes_on told)) (g.H.Host.now c.turn.new.host)
+    (c.turn.ensures.over told (search rules)) (c.turn.ensures.end told (search rules)) refl (c.turn.ensures.end_bound (search rules)) (search rules) (c.turn.ensures.total told ∙ c.items.invariant.total told)
 
 pub returns-in_err-turn-clause-asked : goal.returns-in_err-turn-clause-asked
 returns-in_err-turn-clause-asked g c told_said told = asks_on g (goal.at.returns-in_err-turn-clause-asked g c).After-turn told_said told
@@ -95,60 +148,53 @@ returns-in_err-turn-clause-asked g c told_said told = asks_on g (goal.at.returns
 pub returns-clause-asked : goal.returns-clause-asked
 returns-clause-asked g c told_said told = asks_on g (goal.at.returns-clause-asked g c).After-turn told_said told
 
+pub returns-in_err-turn-clause-waits : goal.returns-in_err-turn-clause-waits
+returns-in_err-turn-clause-waits g c told stopped =
+    waits_on (limit g (goal.at.returns-in_err-turn-clause-waits g c).After-turn) (work_of c.args.store.now) (g.H.Host.now c.args.host.now) g.H.Host.tells_said (here g (goal.at.returns-in_err-turn-clause-waits g c).After-turn)
+    (c.items.invariant.went told) (g.H.Host.now c.turn.new.host).taken (c.turn.ensures.wants told (search rules)) (search rules)
+
 pub returns-in_err-turn-clause-waiting : goal.returns-in_err-turn-clause-waiting
 returns-in_err-turn-clause-waiting g c told told_said told_input quiet stopped =
     let i = c.items.invariant in
-    let first = g.H.Host.now c.args.host.now in
-    let limit = c.args.store.now.journal.bounds.image in
-    waits limit (work_of c.args.store.now) first.left first.said g.H.Host.tells_said c.items.served (work_of c.items.store) c.items.reader (g.H.Host.now c.items.host) (g.H.Host.now c.turn.new.host)
-    (g.H.Host.stopped c.turn.new.host (g.H.Host.clock c.turn.new.host)) told_said
-    (i.before told_input (false_from_ne_true c.items.reader.ended (λ is. c.turn.ensures.ended_ends is (search rules)))) (c.turn.ensures.wants told_input (search rules)) (search rules)
-    (c.turn.ensures.idle told (i.quiet told quiet) (search rules))
+    waits (limit g (goal.at.returns-in_err-turn-clause-waiting g c).After-turn) (work_of c.args.store.now) (g.H.Host.now c.args.host.now) g.H.Host.tells_said (here g (goal.at.returns-in_err-turn-clause-waiting g c).After-turn)
+    (i.went told_input) (false_from_ne_true c.items.reader.ended (λ is. c.turn.ensures.ended_ends is (search rules))) (g.H.Host.now c.turn.new.host) (g.H.Host.stopped c.turn.new.host (g.H.Host.clock c.turn.new.host)) told_said
+    (c.turn.ensures.wants told_input (search rules)) (search rules) (c.turn.ensures.idle told (i.quiet told quiet) (search rules))
 
 pub returns-in_err-turn-clause-between : goal.returns-in_err-turn-clause-between
 returns-in_err-turn-clause-between g c told told_said told_input quiet stopped =
     let i = c.items.invariant in
+    let at = (goal.at.returns-in_err-turn-clause-between g c).After-turn in
     let first = g.H.Host.now c.args.host.now in
     let mid = g.H.Host.now c.items.host in
-    let limit = c.args.store.now.journal.bounds.image in
-    let items = items_of (lines_of c.args.bound first.left) in
-    let left = items_of (lines_left c.items.reader mid.left) in
-    between_later OpensTo (works limit 1 (work_of c.args.store.now) items) (replies limit 1 (work_of c.args.store.now) items)
-    (works limit (suc c.items.served) (work_of c.items.store) left) (replies limit (suc c.items.served) (work_of c.items.store) left) first.said mid.said (g.H.Host.now c.turn.new.host).said
-    (g.H.Host.stopped c.turn.new.host (g.H.Host.clock c.turn.new.host))
-    (told_served _ _ _ _ g.H.Host.tells_said first.said mid.said told_said (i.done told_input))
-    (idle_between limit (suc c.items.served) (work_of c.items.store) left mid.said (g.H.Host.now c.turn.new.host).said (g.H.Host.stopped c.turn.new.host (g.H.Host.clock c.turn.new.host))
+    between_later OpensTo (works (work_of c.args.store.now) (whole g at)) (replies (whole g at)) (works (work_of c.items.store) (session_at (limit g at) (here g at))) (replies (session_at (limit g at) (here g at)))
+    first.said mid.said (g.H.Host.now c.turn.new.host).said (g.H.Host.stopped c.turn.new.host (g.H.Host.clock c.turn.new.host))
+    (told_served _ _ _ _ g.H.Host.tells_said first.said mid.said told_said (served_on g at told_input))
+    (idle_between (work_of c.items.store) (session_at (limit g at) (here g at)) mid.said (g.H.Host.now c.turn.new.host).said (g.H.Host.stopped c.turn.new.host (g.H.Host.clock c.turn.new.host))
     (search rules) (c.turn.ensures.idle told (i.quiet told quiet) (search rules)))
 
 pub returns-in_err-turn-clause-broken : goal.returns-in_err-turn-clause-broken
 returns-in_err-turn-clause-broken g c told told_said told_input quiet stopped =
     let i = c.items.invariant in
+    let at = (goal.at.returns-in_err-turn-clause-broken g c).After-turn in
     let first = g.H.Host.now c.args.host.now in
     let mid = g.H.Host.now c.items.host in
-    let limit = c.args.store.now.journal.bounds.image in
-    let items = items_of (lines_of c.args.bound first.left) in
-    let left = items_of (lines_left c.items.reader mid.left) in
-    broken_later OpensTo (works limit 1 (work_of c.args.store.now) items) (replies limit 1 (work_of c.args.store.now) items)
-    (works limit (suc c.items.served) (work_of c.items.store) left) (replies limit (suc c.items.served) (work_of c.items.store) left) first.said mid.said (g.H.Host.now c.turn.new.host).said
-    (g.H.Host.stopped c.turn.new.host (g.H.Host.clock c.turn.new.host))
-    (told_served _ _ _ _ g.H.Host.tells_said first.said mid.said told_said (i.done told_input))
-    (subst (λ (b : Bounds). IsBroken OpensTo (works b.image (suc c.items.served) (work_of c.items.store) left) (replies b.image (suc c.items.served) (work_of c.items.store) left) mid.said (g.H.Host.now c.turn.new.host).said
-    (g.H.Host.stopped c.turn.new.host (g.H.Host.clock c.turn.new.host))) i.bounds (c.turn.ensures.broken told told_said told_input (i.quiet told quiet) (search rules)))
+    broken_later OpensTo (works (work_of c.args.store.now) (whole g at)) (replies (whole g at)) (works (work_of c.items.store) (session_at (limit g at) (here g at))) (replies (session_at (limit g at) (here g at)))
+    first.said mid.said (g.H.Host.now c.turn.new.host).said (g.H.Host.stopped c.turn.new.host (g.H.Host.clock c.turn.new.host))
+    (told_served _ _ _ _ g.H.Host.tells_said first.said mid.said told_said (served_on g at told_input))
+    (of_bounds g at (λ b. IsBroken OpensTo (works (work_of c.items.store) (session_at b (here g at))) (replies (session_at b (here g at))) mid.said (g.H.Host.now c.turn.new.host).said
+    (g.H.Host.stopped c.turn.new.host (g.H.Host.clock c.turn.new.host))) (c.turn.ensures.broken told told_said told_input (i.quiet told quiet) (search rules)))
 
 pub returns-in_err-turn-clause-cut_short : goal.returns-in_err-turn-clause-cut_short
 returns-in_err-turn-clause-cut_short g c told told_said told_input quiet stopped =
     let i = c.items.invariant in
+    let at = (goal.at.returns-in_err-turn-clause-cut_short g c).After-turn in
     let first = g.H.Host.now c.args.host.now in
     let mid = g.H.Host.now c.items.host in
-    let limit = c.args.store.now.journal.bounds.image in
-    let items = items_of (lines_of c.args.bound first.left) in
-    let left = items_of (lines_left c.items.reader mid.left) in
-    cut_later OpensTo (works limit 1 (work_of c.args.store.now) items) (replies limit 1 (work_of c.args.store.now) items)
-    (works limit (suc c.items.served) (work_of c.items.store) left) (replies limit (suc c.items.served) (work_of c.items.store) left) first.said mid.said (g.H.Host.now c.turn.new.host).said
-    (g.H.Host.stopped c.turn.new.host (g.H.Host.clock c.turn.new.host))
-    (told_served _ _ _ _ g.H.Host.tells_said first.said mid.said told_said (i.done told_input))
-    (subst (λ (b : Bounds). IsCutShort OpensTo (works b.image (suc c.items.served) (work_of c.items.store) left) (replies b.image (suc c.items.served) (work_of c.items.store) left) mid.said (g.H.Host.now c.turn.new.host).said
-    (g.H.Host.stopped c.turn.new.host (g.H.Host.clock c.turn.new.host))) i.bounds (c.turn.ensures.cut_short told told_said told_input (i.quiet told quiet) (search rules)))
+    cut_later OpensTo (works (work_of c.args.store.now) (whole g at)) (replies (whole g at)) (works (work_of c.items.store) (session_at (limit g at) (here g at))) (replies (session_at (limit g at) (here g at)))
+    first.said mid.said (g.H.Host.now c.turn.new.host).said (g.H.Host.stopped c.turn.new.host (g.H.Host.clock c.turn.new.host))
+    (told_served _ _ _ _ g.H.Host.tells_said first.said mid.said told_said (served_on g at told_input))
+    (of_bounds g at (λ b. IsCutShort OpensTo (works (work_of c.items.store) (session_at b (here g at))) (replies (session_at b (here g at))) mid.said (g.H.Host.now c.turn.new.host).said
+    (g.H.Host.stopped c.turn.new.host (g.H.Host.clock c.turn.new.host))) (c.turn.ensures.cut_short told told_said told_input (i.quiet told quiet) (search rules)))
 
 pub returns-clause-asks_rise : goal.returns-clause-asks_rise
 returns-clause-asks_rise g c told = rises_to_end g (goal.at.returns-clause-asks_rise g c).After-turn told

@@ -1,23 +1,20 @@
-use Rattle.std.proofs.Common.{◌≡◌, ◌≤◌, ◌+◌, ◌-◌, [], suc, length, true, false, IsTrue}
-use Rattle.abc_outside.specs.Stop.{Leaves, IsQuiet}
+use Rattle.std.proofs.Common.{◌≡◌, ◌≤◌, ◌+◌, ◌-◌, [], length, true, IsTrue}
 use Rattle.abc_outside.specs.Outside.{IsFaultless}
-use Rattle.abc_outside.specs.Session.{HasServed}
-use Rattle.abc_session.specs.Lines.{items_of, lines_of}
-use Rattle.abc_session.specs.inner.Reading.{lines_left, used_of}
-use Rattle.abc_session.specs.Session.{replies}
-use Rattle.abc_session.specs.Serving.{work_of, works, Holds, IsSessionPoint, NoneFell}
+use Rattle.abc_outside.specs.Stop.{Leaves, IsQuiet}
 use Rattle.abc_session.specs.Asking.{Asked, AskedRising, next_ask}
-use Rattle.abc_session.specs.Settled.{AsksSettled, IsBeforeLine}
+use Rattle.abc_session.specs.Session.{session_of}
+use Rattle.abc_session.specs.Serving.{work_of, Holds, IsSessionPoint, NoneFell}
+use Rattle.abc_session.specs.Settled.{AsksSettled}
+use Rattle.abc_session.specs.inner.Place.{start_place, place_at, WentOn}
+use Rattle.abc_session.specs.inner.Reading.{used_of}
 use Rattle.abc_session.proofs.session.serve_all.Given as goal
 
 abbrev pub invariant-items : goal.invariant-items
 invariant-items g l =
     let first = g.H.Host.now l.initial.host in
     let now = g.H.Host.now l.host in
-    let limit = l.initial.store.journal.bounds.image in
+    let limit = l.initial.store.journal.bounds in
     let work = work_of l.initial.store in
-    let items = items_of (lines_of l.bound first.left) in
-    let left = items_of (lines_left l.reader now.left) in
     record {
       sound : IsTrue l.store.journal.sound;
       bounds : l.store.journal.bounds ≡ l.initial.store.journal.bounds;
@@ -27,12 +24,11 @@ invariant-items g l =
       total : g.H.Host.tells_input → l.reader.taken + length now.left ≡ length first.left;
       ended : g.H.Host.tells_input → l.reader.ended ≡ true → now.left ≡ [];
       counted : l.served ≤ used_of l.reader;
-      done : g.H.Host.tells_input → HasServed (works limit 1 work items) (replies limit 1 work items) (works limit (suc l.served) (work_of l.store) left) (replies limit (suc l.served) (work_of l.store) left) g.H.Host.tells_said first.said now.said;
-      before : g.H.Host.tells_input → l.reader.ended ≡ false → IsBeforeLine limit work first.left first.said g.H.Host.tells_said l.served (work_of l.store) l.reader now;
+      went : g.H.Host.tells_input → WentOn limit g.H.Host.tells_said (start_place work limit.input first) (place_at l.served (work_of l.store) l.reader now);
       asked : g.H.Host.tells_said → g.H.Host.tells_input → Asked (AsksSettled limit work first.left (length first.said)) first.asked now.asked;
       asks_rise : g.H.Host.tells_said → AskedRising 0 (next_ask l.reader.taken l.reader.ended) first.asked now.asked;
       stops : g.H.Host.tells_image → g.H.Host.tells_said → g.H.Host.tells_input → IsQuiet g.H.Host.clock g.H.Host.stopped l.initial.host first.image
-          → Leaves g.H.Host.clock g.H.Host.stopped l.initial.host l.host (IsSessionPoint limit 1 work items first.said);
+          → Leaves g.H.Host.clock g.H.Host.stopped l.initial.host l.host (IsSessionPoint work (session_of limit work first.left) first.said);
       quiet : g.H.Host.tells_image → IsQuiet g.H.Host.clock g.H.Host.stopped l.initial.host first.image → IsQuiet g.H.Host.clock g.H.Host.stopped l.host now.image;
       chosen : now.chosen ≡ first.chosen;
       none_fell : NoneFell first now;

@@ -1,5 +1,5 @@
 use Rattle.std.proofs.Common.{sym, refl}
-use Rattle.abc_unify.specs.Graphs.{with_variable, with_demand, with_node}
+use Rattle.abc_unify.specs.Graphs.{with_variable, with_demand, with_demands, with_node}
 use Rattle.abc_unify.proofs.Backward.{back_now, back_more, back_twice}
 use Rattle.abc_unify.proofs.laws.undo_model.Goals as goal
 
@@ -17,3 +17,6 @@ returns-clause-node c s a t m h = back_more s (with_node s a t) m refl h
 
 pub returns-clause-undo : goal.returns-clause-undo
 returns-clause-undo c s k m h i = back_twice s k m h i
+
+pub returns-clause-demands : goal.returns-clause-demands
+returns-clause-demands c s more m h = back_more s (with_demands s more) m refl h

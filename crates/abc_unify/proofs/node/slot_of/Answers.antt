@@ -22,11 +22,11 @@ returns-in_ok-variables_of-in-Compound-clause-inside c n node =
     fields_in n c.args.term.now xs is node
 
 pub returns-in-List-clause-means : goal.returns-in-List-clause-means
-returns-in-List-clause-means c v g = list_is c.args.term.now v g c.variable_of.result (c.in-List.is ∙ ap term.List (sym c.get.ensures ∙ c.variable_of.ensures))
+returns-in-List-clause-means c v g = list_is c.args.term.now v g c.variable.result (c.in-List.is ∙ ap term.List (sym c.get.ensures ∙ c.variable.ensures))
 
 pub returns-in-Table-clause-means : goal.returns-in-Table-clause-means
 returns-in-Table-clause-means c v g =
-    let key : c.in-Table.key ≡ term.Var c.variable_of-in-Table.result = sym c.get-in-Table.ensures ∙ c.variable_of-in-Table.ensures in
-    let associate : c.in-Table.associate ≡ term.Var c.variable_of-in-Table-2.result = sym c.get-in-Table-2.ensures ∙ c.variable_of-in-Table-2.ensures in
-    table_is c.args.term.now v g c.variable_of-in-Table.result c.variable_of-in-Table-2.result
-    (c.in-Table.is ∙ (ap (λ t. term.Table t c.in-Table.associate) key ∙ ap (term.Table (term.Var c.variable_of-in-Table.result)) associate))
+    let key : c.in-Table.key ≡ term.Var c.variable-in-Table.result = sym c.get-in-Table.ensures ∙ c.variable-in-Table.ensures in
+    let associate : c.in-Table.associate ≡ term.Var c.variable-in-Table-2.result = sym c.get-in-Table-2.ensures ∙ c.variable-in-Table-2.ensures in
+    table_is c.args.term.now v g c.variable-in-Table.result c.variable-in-Table-2.result
+    (c.in-Table.is ∙ (ap (λ t. term.Table t c.in-Table.associate) key ∙ ap (term.Table (term.Var c.variable-in-Table.result)) associate))

@@ -1,6 +1,7 @@
 use Rattle.std.proofs.Common.{◌≡◌, []}
 use Rattle.abc_unify.specs.inner.Slots.{SlotsIn, KeepsSolutions, weight}
 use Rattle.abc_unify.specs.inner.Logs.{IsLogged}
+use Rattle.abc_unify.specs.inner.Naming.{AreNoted, HasGrown}
 use Rattle.abc_unify.proofs.settle.settle.Given as goal
 
 abbrev pub invariant-loop-top : goal.invariant-loop-top
@@ -9,6 +10,8 @@ invariant-loop-top l = record {
   work : l.work.items ≡ [];
   solutions : KeepsSolutions l.fn.slots l.fn.work.items l.slots [];
   logged : IsLogged l.fn.slots l.fn.log.items l.slots l.log.items;
+  noted : AreNoted l.slots l.log.items l.named;
+  grown : HasGrown l.fn.named l.named;
 }
 
 abbrev pub decreases-loop-top : goal.decreases-loop-top

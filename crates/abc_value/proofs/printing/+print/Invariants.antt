@@ -14,7 +14,7 @@ abbrev pub decreases-add_displays : goal.decreases-add_displays
 decreases-add_displays l = 3 * trees_height (trees l.parts.now.items) + 1
 
 abbrev pub decreases-add_pairs : goal.decreases-add_pairs
-decreases-add_pairs l = 3 * pairs_height (pairs (map as_pair l.entries.now)) + 1
+decreases-add_pairs l = 3 * pairs_height (pairs (map as_pair l.entries.now.items)) + 1
 
 abbrev pub decreases-add_pair : goal.decreases-add_pair
 decreases-add_pair l = 3 * max (height_of l.entry.now.key) (height_of l.entry.now.associate) + 3
@@ -26,5 +26,5 @@ invariant-add_displays-loop-i l =
 
 abbrev pub invariant-add_pairs-loop-i : goal.invariant-add_pairs-loop-i
 invariant-add_pairs-loop-i l =
-    let texts = pair_displays (pairs (map as_pair l.entries)) in
+    let texts = pair_displays (pairs (map as_pair l.entries.items)) in
     IsGoing l.fn.bytes.items (joined (codes "; ") texts) l.bytes.items (left (codes "; ") l.i (drop l.i texts)) l.most

@@ -4,5 +4,5 @@ use Rattle.abc_value.specs.Sizes.{pairs_height}
 use Rattle.abc_value.specs.View.{as_pair}
 use Rattle.abc_value.proofs.sizes.tallest_entry.Given as goal
 
-abbrev pub invariant-loop-entry : goal.invariant-loop-entry
-invariant-loop-entry l = l.height ≡ pairs_height (pairs (map as_pair (take l.entry-index l.entries)))
+abbrev pub invariant-loop-i : goal.invariant-loop-i
+invariant-loop-i l = l.height ≡ pairs_height (pairs (map as_pair (take l.i l.entries.items)))

@@ -34,4 +34,4 @@ returns-in-Some-Inside-clause-steps c =
     let top = rw c.in-Some-Inside.field-0-is at c.in-Some-Inside.ensures in
     steps_along _ _ _ _ _ _ (λ next. c.loop-self.invariant.2 next ∙ at_inside _ _ _ _ _ _ _ _ _ c.loop-self.invariant.3 (sym c.goes_on.ensures ∙ c.if-goes_on.false) _ _ _ top next
     ∙ ap (λ s. settles (settled c.in-Some-Inside.group s c.loop-self.a) next c.loop-self.self.left c.pop.new.self c.in-Some-Inside.outer (c.args.token.now ∷ c.args.rest.now)) (sym c.sign_of.ensures))
-    (c.settle.ensures.steps (c.args.token.now ∷ c.args.rest.now))
+    (c.reduce.ensures.steps (c.args.token.now ∷ c.args.rest.now))

@@ -1,9 +1,10 @@
-use Rattle.std.proofs.Common.{rules, ◌≡◌, ◌++◌, [], ◌∷◌, length, Ok, ◌+◌, sym, ◌∙◌, ap, subst, arith}
+use Rattle.std.proofs.Common.{rules, ◌≡◌, ◌++◌, [], ◌∷◌, length, Ok, ◌+◌, ◌<◌, refl, sym, ◌∙◌, ap, subst, arith}
 use Rattle.abc_outside.specs.Stop.{written}
 use Rattle.abc_journal.specs.Image.{behind_gate, opened}
-use Rattle.abc_journal.specs.Journal.{HasLayout, after_record}
+use Rattle.abc_journal.specs.Journal.{HasLayout, need_of, after_record}
 use Rattle.abc_journal.proofs.Image.{has_payloads}
 use Rattle.abc_journal.proofs.Append.{gate_within, length-staged, during_first, during_both, written_gate, open_kept, has_layout}
+use Rattle.abc_journal.proofs.Full.{no_record}
 use Rattle.abc_journal.proofs.journal.Journal.append.Given.{Over}
 use Rattle.abc_journal.proofs.journal.Journal.append.Goals.{In_ok-write_through}
 use Rattle.abc_journal.proofs.journal.Journal.append.Goals as goal
@@ -67,3 +68,11 @@ returns-clause-layout g c told =
     let is = staged g mid told in
     let gate = written_gate _ _ has.0 h has.1 c.args.payload.now _ (c.in_ok-write_through-2.ensures.image told ∙ ap (λ i. written i c.self.inside.layout.gate (1 ∷ [])) is) in
     subst (λ l. HasLayout (g.H.Host.now c.write_through-2.new.host).image l) (sym c.with_record-self-inside.ensures) (has_layout _ _ has.0 h has.1 c.args.payload.now (search rules) _ gate.0 gate.1)
+
+pub returns-then-need-self-clause-layouts : goal.returns-then-need-self-clause-layouts
+returns-then-need-self-clause-layouts g c =
+    let layout = c.args.self.now.layout in
+    let bounds = c.args.self.now.bounds in
+    let bytes = length c.args.payload.now in
+    let past : bounds.image < need_of layout bytes = search rules in
+    (record { layout = layout; need = need_of layout bytes }, no_record bounds layout bytes past, refl, search rules)

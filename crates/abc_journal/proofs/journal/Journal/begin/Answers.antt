@@ -3,7 +3,7 @@ use Rattle.abc_outside.proofs.Leaves.{one_call, run_after}
 use Rattle.abc_journal.specs.Image.{opened, read_image}
 use Rattle.abc_journal.specs.Journal.{HasLayout}
 use Rattle.abc_journal.proofs.Image.{settled_short, settled_long}
-use Rattle.abc_journal.proofs.Begin.{opened_short, fresh_layout, fresh_has_layout, opened_long, long_has_layout, begin_reads, begin_asks, begin_settles, passed_on}
+use Rattle.abc_journal.proofs.Begin.{opened_short, fresh_layout, fresh_has_layout, opened_long, long_has_layout, begin_reads, begin_asks, begin_writes, passed_on}
 use Rattle.abc_journal.proofs.journal.Journal.begin.Goals as goal
 
 pub returns-in_err-size-clause-stops : goal.returns-in_err-size-clause-stops
@@ -11,17 +11,17 @@ returns-in_err-size-clause-stops g c told quiet ps has =
     begin_reads g.H.Host.clock g.H.Host.stopped _ _ ps has c.args.host.now quiet (g.met.H.Host.says_now c.args.host.now) c.size.new.self
     (one_call g.H.Host.clock g.H.Host.stopped c.args.host.now c.size.new.self _ c.size.ensures.time c.size.ensures.stop)
 
-pub returns-in_err-settle-clause-stops : goal.returns-in_err-settle-clause-stops
-returns-in_err-settle-clause-stops g c told quiet ps has =
+pub returns-in_err-write_fresh-clause-stops : goal.returns-in_err-write_fresh-clause-stops
+returns-in_err-write_fresh-clause-stops g c told quiet ps has =
     let size = c.in_ok-size.ensures.size told in
-    begin_settles g.H.Host.clock g.H.Host.stopped _ _ ps has c.args.host.now quiet (g.met.H.Host.says_now c.args.host.now) c.size.new.self c.settle.new.host
-    c.size.ensures.time c.size.ensures.stop (omega (arith, size)) c.settle.ensures.stops
+    begin_writes g.H.Host.clock g.H.Host.stopped _ _ ps has c.args.host.now quiet (g.met.H.Host.says_now c.args.host.now) c.size.new.self c.write_fresh.new.host
+    c.size.ensures.time c.size.ensures.stop (omega (arith, size)) c.write_fresh.ensures.stops
 
 pub returns-then-size-clause-stops : goal.returns-then-size-clause-stops
 returns-then-size-clause-stops g c told quiet ps has =
     let size = c.in_ok-size.ensures.size told in
-    begin_settles g.H.Host.clock g.H.Host.stopped _ _ ps has c.args.host.now quiet (g.met.H.Host.says_now c.args.host.now) c.size.new.self c.settle.new.host
-    c.size.ensures.time c.size.ensures.stop (omega (arith, size)) c.settle.ensures.stops
+    begin_writes g.H.Host.clock g.H.Host.stopped _ _ ps has c.args.host.now quiet (g.met.H.Host.says_now c.args.host.now) c.size.new.self c.write_fresh.new.host
+    c.size.ensures.time c.size.ensures.stop (omega (arith, size)) c.write_fresh.ensures.stops
 
 pub returns-then-size-clause-opened : goal.returns-then-size-clause-opened
 returns-then-size-clause-opened g c told =
@@ -32,14 +32,14 @@ returns-then-size-clause-opened g c told =
 
 pub returns-then-size-clause-layout : goal.returns-then-size-clause-layout
 returns-then-size-clause-layout g c told =
-    subst (λ l. HasLayout (g.H.Host.now c.settle.new.host).image l) (sym (ap (λ v. v.layout) c.with_layout.ensures))
-    (subst (λ i. HasLayout i fresh_layout) (sym (c.in_ok-settle.ensures.image told)) fresh_has_layout)
+    subst (λ l. HasLayout (g.H.Host.now c.write_fresh.new.host).image l) (sym (ap (λ v. v.layout) c.with_layout.ensures))
+    (subst (λ i. HasLayout i fresh_layout) (sym (c.in_ok-write_fresh.ensures.image told)) fresh_has_layout)
 
 pub returns-then-size-clause-image : goal.returns-then-size-clause-image
 returns-then-size-clause-image g c told =
     let image = (g.H.Host.now c.args.host.now).image in
     let size = c.in_ok-size.ensures.size told in
-    c.in_ok-settle.ensures.image told ∙ sym (settled_short image (omega (arith, size)))
+    c.in_ok-write_fresh.ensures.image told ∙ sym (settled_short image (omega (arith, size)))
 
 pub returns-in_err-layout-clause-refused : goal.returns-in_err-layout-clause-refused
 returns-in_err-layout-clause-refused g c told =
@@ -82,14 +82,14 @@ returns-clause-image g c told =
     let size = c.in_ok-size.ensures.size told in
     c.read_image.ensures.image ∙ c.size.ensures.image ∙ sym (settled_long image (omega (arith, size)))
 
-pub returns-in_err-settle-clause-fresh : goal.returns-in_err-settle-clause-fresh
-returns-in_err-settle-clause-fresh g c told is =
-    run_after g.H.Host.clock g.H.Host.stopped c.args.host.now c.size.new.self c.settle.new.host _ _
+pub returns-in_err-write_fresh-clause-fresh : goal.returns-in_err-write_fresh-clause-fresh
+returns-in_err-write_fresh-clause-fresh g c told is =
+    run_after g.H.Host.clock g.H.Host.stopped c.args.host.now c.size.new.self c.write_fresh.new.host _ _
     (one_call g.H.Host.clock g.H.Host.stopped c.args.host.now c.size.new.self _ c.size.ensures.time c.size.ensures.stop)
-    (c.settle.ensures.fresh told (c.size.ensures.image ∙ is)) c.size.ensures.stop
+    (c.write_fresh.ensures.fresh told (c.size.ensures.image ∙ is)) c.size.ensures.stop
 
 pub returns-then-size-clause-fresh : goal.returns-then-size-clause-fresh
 returns-then-size-clause-fresh g c told is =
-    run_after g.H.Host.clock g.H.Host.stopped c.args.host.now c.size.new.self c.settle.new.host _ _
+    run_after g.H.Host.clock g.H.Host.stopped c.args.host.now c.size.new.self c.write_fresh.new.host _ _
     (one_call g.H.Host.clock g.H.Host.stopped c.args.host.now c.size.new.self _ c.size.ensures.time c.size.ensures.stop)
-    (c.settle.ensures.fresh told (c.size.ensures.image ∙ is)) c.size.ensures.stop
+    (c.write_fresh.ensures.fresh told (c.size.ensures.image ∙ is)) c.size.ensures.stop

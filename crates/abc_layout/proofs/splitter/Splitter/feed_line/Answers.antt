@@ -1,6 +1,6 @@
 use Rattle.std.proofs.Common.{◌≡◌, ◌<◌, arith, length, ap}
 use Rattle.std.proofs.lemmas.Bool.Decides.{nat_tests}
-use Rattle.abc_layout.specs.Items.{RawLine}
+use Rattle.abc_num.specs.declared.lines.RawLine.{RawLine}
 use Rattle.abc_layout.proofs.Feeding.{feed_blank, feed_before, fed_first, fed_on, blank_is, belongs_is, same_unit}
 use Rattle.abc_layout.proofs.splitter.Splitter.feed_line.Goals as goal
 

@@ -1,9 +1,10 @@
 use Rattle.std.proofs.Common.{rules, ◌≡◌, ◌<◌, ◌+◌, ◌-◌, ◌++◌, ◌∷◌, ◌∙◌, true, false, [], length, take, nat_lt, sym, ap, refl}
 use Rattle.abc_outside.proofs.Leaves.{run_after}
-use Rattle.abc_session.specs.Lines.{lines_by}
+use Rattle.abc_num.specs.Lines.{raw_lines}
 use Rattle.abc_session.specs.inner.Reading.{shown, pending_of, TookPart, WantsMore, AsksMore}
 use Rattle.abc_session.proofs.Started.{IsStarted, found, uses, if_found, went_on, read_on, wants, ends_empty, ends_line, last_found, none_left}
 use Rattle.abc_session.specs.Asking.{Asked, next_ask}
+use Rattle.abc_session.proofs.FirstLines.{first, first_last, over, over_stays, within, last_first, none_over}
 use Rattle.abc_session.proofs.Asks.{asks_more, rising_read}
 use Rattle.abc_session.proofs.reader.Reader.next.Given.{Over}
 use Rattle.abc_session.proofs.reader.Reader.next.Goals.{In_ok-take_part, After-fill}
@@ -32,9 +33,9 @@ returns-then-branch-clause-line g c told =
     let line = shown c.take_part.new.line in
     let part : TookPart (pending_of c.pieces.self) (pending_of new) (shown c.pieces.line) line true = rw c.if-branch.true at c.in_ok-take_part.ensures.part in
     found (pending_of c.args.self.now) (g.H.Host.now c.args.host.now).left c.args.self.now.taken (shown c.pieces.line) (pending_of c.pieces.self) left c.pieces.self.taken (c.pieces.invariant.started told)
-    (pending_of new) line bound (search rules) part
-    ∙ ap (λ t. line ∷ lines_by (nat_lt (t + length left) bound) (pending_of new ++ take (bound - t) left)) (sym c.in_ok-take_part.ensures.taken)
-    ∙ ap (λ b. line ∷ lines_by (nat_lt (new.taken + length left) b) (pending_of new ++ take (b - new.taken) left)) (sym (c.in_ok-take_part.ensures.bound ∙ c.pieces.invariant.bound))
+    (pending_of new) line c.finish.result bound (search rules) part c.finish.ensures.line
+    ∙ ap (λ t. c.finish.result ∷ raw_lines (nat_lt (t + length left) bound) (pending_of new ++ take (bound - t) left)) (sym c.in_ok-take_part.ensures.taken)
+    ∙ ap (λ b. c.finish.result ∷ raw_lines (nat_lt (new.taken + length left) b) (pending_of new ++ take (b - new.taken) left)) (sym (c.in_ok-take_part.ensures.bound ∙ c.pieces.invariant.bound))
 
 pub returns-then-self-clause-line : goal.returns-then-self-clause-line
 returns-then-self-clause-line g c told =
@@ -47,9 +48,9 @@ returns-then-self-clause-line g c told =
     let s = goes_on g (goal.at.returns-then-self-clause-line g c).In_ok-take_part c.if-branch.false told in
     let end : left ≡ [] = search rules in
     let lt : c.pieces.self.taken < bound = search rules in
-    last_found c.if_any.result c.take_part.new.line _ _ c.if_any.ensures
-    (λ empty. ends_empty _ _ _ _ _ _ _ s bound lt (search rules) end empty) (λ some. ends_line _ _ _ _ _ _ _ s bound lt (search rules) end some)
-    (none_left (pending_of new) left _ _ none end)
+    last_found c.if_any.result c.take_part.new.line _ _ new.ended c.if_any.ensures.last
+    (λ empty. ends_empty _ _ _ _ _ _ _ s bound lt (search rules) end empty) (λ last made some. ends_line _ _ _ _ _ _ _ s bound last lt (search rules) end made some)
+    (none_left (pending_of new) left _ _ none end) (search rules)
 
 pub returns-then-self-2-clause-wants : goal.returns-then-self-2-clause-wants
 returns-then-self-2-clause-wants g c told _ = wants_now g (goal.at.returns-then-self-2-clause-wants g c).In_ok-take_part c.if-branch.false told
@@ -61,9 +62,9 @@ pieces-preserved g c =
     record {
       counts = search rules;
       bound = search rules;
+      rises = search rules;
       ended = search rules;
       used = search rules;
-      short = search rules;
       started = λ told. read_on _ _ _ _ _ _ _ (goes_on g part c.if-branch.false told) (pending_of c.fill.new.self) (g.H.Host.now c.fill.new.host).left c.fill.new.self.taken refl (c.in_ok-fill.ensures.bytes told) (search rules);
       asked = λ told_said told. asks_on g (goal.at.pieces-preserved g c).After-fill (wants_now g part c.if-branch.false told) told_said told;
       asks_rise = λ told. rising_read (next_ask c.args.self.now.taken c.args.self.now.ended) c.pieces.self.taken c.take_part.new.self.taken _ c.pieces.self.ended c.take_part.new.self.ended
@@ -93,7 +94,7 @@ returns-then-branch-clause-uses g c told not_ended =
     let line = shown c.take_part.new.line in
     let part : TookPart (pending_of c.pieces.self) (pending_of new) (shown c.pieces.line) line true = rw c.if-branch.true at c.in_ok-take_part.ensures.part in
     rw (c.in_ok-take_part.ensures.taken) (uses (pending_of c.args.self.now) (g.H.Host.now c.args.host.now).left c.args.self.now.taken (shown c.pieces.line) (pending_of c.pieces.self) left c.pieces.self.taken (c.pieces.invariant.started told)
-    (pending_of new) line part)
+    (pending_of new) line c.finish.result part c.finish.ensures.line)
 
 pub returns-then-self-clause-uses : goal.returns-then-self-clause-uses
 returns-then-self-clause-uses g c told =
@@ -105,3 +106,45 @@ returns-in_err-fill-clause-asks_rise g c told =
     rising_read (next_ask c.args.self.now.taken c.args.self.now.ended) c.pieces.self.taken c.take_part.new.self.taken _ c.pieces.self.ended c.take_part.new.self.ended
     (g.H.Host.now c.args.host.now).asked (g.H.Host.now c.pieces.host).asked (g.H.Host.now c.fill.new.host).asked c.in_ok-take_part.ensures.taken c.in_ok-take_part.ensures.ended (search rules)
     (c.pieces.invariant.asks_rise told) (c.fill.ensures.asks_rise told)
+
+pub returns-then-branch-clause-first : goal.returns-then-branch-clause-first
+returns-then-branch-clause-first g c told =
+    let new = c.take_part.new.self in
+    let line = shown c.take_part.new.line in
+    let part : TookPart (pending_of c.pieces.self) (pending_of new) (shown c.pieces.line) line true = rw c.if-branch.true at c.in_ok-take_part.ensures.part in
+    first (pending_of c.args.self.now) (g.H.Host.now c.args.host.now).left c.args.self.now.taken (shown c.pieces.line) (pending_of c.pieces.self) (g.H.Host.now c.pieces.host).left c.pieces.self.taken (c.pieces.invariant.started told)
+    (pending_of new) line c.finish.result c.args.self.now.bound new.taken new.bound (search rules) c.in_ok-take_part.ensures.taken (c.in_ok-take_part.ensures.bound ∙ c.pieces.invariant.bound) part c.finish.ensures.line
+
+pub returns-then-self-clause-first : goal.returns-then-self-clause-first
+returns-then-self-clause-first g c told =
+    let new = c.take_part.new.self in
+    let line = shown c.take_part.new.line in
+    let part : TookPart (pending_of c.pieces.self) (pending_of new) (shown c.pieces.line) line false = rw c.if-branch.false at c.in_ok-take_part.ensures.part in
+    let end : (g.H.Host.now c.pieces.host).left ≡ [] = search rules in
+    let lt : c.pieces.self.taken < c.args.self.now.bound = search rules in
+    let s = goes_on g (goal.at.returns-then-self-clause-first g c).In_ok-take_part c.if-branch.false told in
+    last_first c.if_any.result c.take_part.new.line _ c.if_any.ensures.last
+    (λ last made some. first_last _ _ _ _ _ _ _ s (pending_of new) last c.args.self.now.bound new.taken new.bound lt refl end (part.rest refl) c.in_ok-take_part.ensures.taken (c.in_ok-take_part.ensures.bound ∙ c.pieces.invariant.bound) made some)
+
+pub returns-then-self-clause-over : goal.returns-then-self-clause-over
+returns-then-self-clause-over g c told =
+    let end : (g.H.Host.now c.pieces.host).left ≡ [] = search rules in
+    let lt : c.pieces.self.taken < c.args.self.now.bound = search rules in
+    let s = goes_on g (goal.at.returns-then-self-clause-over g c).In_ok-take_part c.if-branch.false told in
+    none_over c.if_any.result c.take_part.new.line _ c.if_any.ensures.last (λ empty. over _ _ _ _ _ _ _ s c.args.self.now.bound lt refl end empty)
+
+pub returns-then-self-clause-over_stays : goal.returns-then-self-clause-over_stays
+returns-then-self-clause-over_stays g c told =
+    let new = c.take_part.new.self in
+    let line = shown c.take_part.new.line in
+    let part : TookPart (pending_of c.pieces.self) (pending_of new) (shown c.pieces.line) line false = rw c.if-branch.false at c.in_ok-take_part.ensures.part in
+    let end : (g.H.Host.now c.pieces.host).left ≡ [] = search rules in
+    let lt : c.pieces.self.taken < c.args.self.now.bound = search rules in
+    let s = goes_on g (goal.at.returns-then-self-clause-over_stays g c).In_ok-take_part c.if-branch.false told in
+    none_over c.if_any.result c.take_part.new.line _ c.if_any.ensures.last
+    (λ empty. over_stays _ _ _ _ _ _ _ s (pending_of new) c.args.self.now.bound new.taken new.bound lt refl end (part.rest refl) c.in_ok-take_part.ensures.taken (c.in_ok-take_part.ensures.bound ∙ c.pieces.invariant.bound) empty)
+
+pub returns-then-self-2-clause-within : goal.returns-then-self-2-clause-within
+returns-then-self-2-clause-within g c told is =
+    let s = goes_on g (goal.at.returns-then-self-2-clause-within g c).In_ok-take_part c.if-branch.false told in
+    within _ _ _ _ _ _ _ s c.args.self.now.bound (search rules) refl

@@ -1,7 +1,6 @@
 use Rattle.std.proofs.Common.{◌≡◌, ◌≤◌, ◌+◌, ◌-◌, ◌*◌, List, ℕ, [], length, true, cond}
 use Rattle.abc_outside.specs.Outside.{KeepsButInput}
 use Rattle.abc_outside.specs.Stop.{Leaves}
-use Rattle.abc_num.specs.declared.limits.TheConstants.{MOST_LINE_BYTES}
 use Rattle.abc_session.specs.inner.Reading.{shown, pending_of, used_of, AsksMore}
 use Rattle.abc_session.specs.Asking.{Asked, AskedRising, next_ask}
 use Rattle.abc_session.proofs.Started.{IsStarted}
@@ -11,9 +10,9 @@ abbrev pub invariant-pieces : goal.invariant-pieces
 invariant-pieces g l = record {
   counts : (g.H.Host.now l.host).taken ≡ l.self.taken;
   bound : l.self.bound ≡ l.initial.self.bound;
+  rises : l.initial.self.taken ≤ l.self.taken;
   ended : g.H.Host.tells_input → l.self.ended ≡ true → (g.H.Host.now l.host).left ≡ [];
-  used : length l.line.text.items + used_of l.initial.self ≤ used_of l.self;
-  short : length l.line.text.items ≤ MOST_LINE_BYTES;
+  used : length l.line.bytes.items + used_of l.initial.self ≤ used_of l.self;
   started : g.H.Host.tells_input
       → IsStarted (pending_of l.initial.self) (g.H.Host.now l.initial.host).left l.initial.self.taken (shown l.line) (pending_of l.self) (g.H.Host.now l.host).left l.self.taken;
   asked : g.H.Host.tells_said → g.H.Host.tells_input

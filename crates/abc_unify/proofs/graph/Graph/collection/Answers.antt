@@ -10,7 +10,7 @@ pub add-requires-clause-same : goal.add-requires-clause-same
 add-requires-clause-same c v = collection_is (v c.args.a.0) (v c.args.e.0)
 
 pub returns-clause-solvable : goal.returns-clause-solvable
-returns-clause-solvable c = solved_has_solution c.add.new.self.slots.items c.add.new.self.demands.items c.add.ensures.kept.solved
+returns-clause-solvable c = solved_has_solution c.add.new.self.slots.items c.add.new.self.demands.items c.add.ensures.kept.kept.solved
 
 pub returns-clause-clash : goal.returns-clause-clash
 returns-clause-clash c = subst (λ (s : Seen). c.add.result ≡ Err Clash → IsUnsolvable (s.demands ++ demand.Collection c.args.a c.args.e ∷ [])) c.self.view_is c.add.ensures.clash

@@ -6,7 +6,7 @@ use Rattle.abc_unify.proofs.graph.Graph.node.Goals as goal
 pub returns-clause-unnamed : goal.returns-clause-unnamed
 returns-clause-unnamed c =
     let s = c.self.inside.state in
-    answered_unnamed c.add_node.result (length s.slots.items) s.demands.items c.args.self.now.demands (ap (λ (t : Seen). t.demands) c.self.view_is) c.self.invariant.solved.made c.add_node.ensures.number
+    answered_unnamed c.add_node.result (length s.slots.items) s.demands.items c.args.self.now.demands (ap (λ (t : Seen). t.demands) c.self.view_is) c.self.invariant.kept.solved.made c.add_node.ensures.number
 
 pub returns-clause-solvable : goal.returns-clause-solvable
-returns-clause-solvable c = solved_has_solution c.add_node.new.self.slots.items c.add_node.new.self.demands.items c.add_node.ensures.kept.solved
+returns-clause-solvable c = solved_has_solution c.add_node.new.self.slots.items c.add_node.new.self.demands.items c.add_node.ensures.kept.kept.solved

@@ -2,7 +2,8 @@ use Rattle.std.proofs.Common.{◌≡◌, ◌∙◌, ◌++◌, ◌∷◌, [], len
 use Rattle.abc_unify.specs.inner.Slots.{KeepsSolutions, HasNoSolution}
 use Rattle.abc_unify.specs.inner.Logs.{IsLogged}
 use Rattle.abc_unify.proofs.Solved.{whole, solved_with, clash_with}
-use Rattle.abc_unify.proofs.Undoing.{kept_demand, seen_demand}
+use Rattle.abc_unify.proofs.Noting.{noted_as}
+use Rattle.abc_unify.proofs.Undoing.{kept_demands, seen_demands}
 use Rattle.abc_unify.proofs.state.State.add.Goals as goal
 
 pub returns-in-Ok-true-clause-kept : goal.returns-in-Ok-true-clause-kept
@@ -17,8 +18,12 @@ returns-in-Ok-true-clause-kept c =
     let keeps : KeepsSolutions s.slots.items (c.args.ask ∷ []) c.take_in.new.slots [] = rw old at kept in
     let logged : IsLogged c.as_mut_slice.result.now s.log.items c.take_in.new.slots c.take_in.new.log.items = c.in-Ok-true.ensures.logged c.in-Ok-true.field-0-test in
     let logs : IsLogged s.slots.items s.log.items c.take_in.new.slots c.take_in.new.log.items = rw old at logged in
-    kept_demand s.slots.items s.log.items s.demands.items s.history.items c.requires.kept c.point-point.result c.point-point.ensures c.args.demand c.take_in.new.slots _ c.take_in.new.log.items c.push.new.self.items c.push-in-Ok-true.new.self.items logs (whole s.slots.len c.take_in.new.slots _ len) demands history
-    (solved_with s.slots.items c.take_in.new.slots s.demands.items c.args.demand c.args.ask c.requires.kept.solved c.requires.made count c.requires.same (c.in-Ok-true.ensures.slots c.in-Ok-true.field-0-test) keeps (c.in-Ok-true.ensures.ranked c.in-Ok-true.field-0-test))
+    let len2 : length c.take_in.new.named ≡ s.named.len = search rules in
+    record {
+      kept = kept_demands s.slots.items s.log.items s.demands.items s.history.items c.requires.kept.kept c.point-point.result c.point-point.ensures (c.args.demand ∷ []) c.take_in.new.slots _ c.take_in.new.log.items c.push.new.self.items c.push-in-Ok-true.new.self.items logs (whole s.slots.len c.take_in.new.slots _ len) demands history
+          (solved_with s.slots.items c.take_in.new.slots s.demands.items c.args.demand c.args.ask c.requires.kept.kept.solved c.requires.made count c.requires.same (c.in-Ok-true.ensures.slots c.in-Ok-true.field-0-test) keeps (c.in-Ok-true.ensures.ranked c.in-Ok-true.field-0-test));
+      noted = noted_as c.take_in.new.slots _ c.take_in.new.log.items c.take_in.new.named _ (whole s.slots.len c.take_in.new.slots _ len) (whole s.named.len c.take_in.new.named _ len2) c.take_in.ensures.noted;
+    }
 
 pub returns-in-Ok-true-clause-ok : goal.returns-in-Ok-true-clause-ok
 returns-in-Ok-true-clause-ok c =
@@ -27,7 +32,7 @@ returns-in-Ok-true-clause-ok c =
     let len : length c.take_in.new.slots ≡ s.slots.len = search rules in
     let demands : c.push.new.self.items ≡ s.demands.items ++ c.args.demand ∷ [] = search rules in
     let history : c.push-in-Ok-true.new.self.items ≡ s.history.items ++ c.point-point.result ∷ [] = search rules in
-    seen_demand s.slots.items s.log.items s.demands.items s.history.items c.requires.kept c.point-point.result c.point-point.ensures c.args.demand _ c.push.new.self.items c.push-in-Ok-true.new.self.items (ap length (whole s.slots.len c.take_in.new.slots _ len) ∙ count) demands history
+    seen_demands s.slots.items s.log.items s.demands.items s.history.items c.requires.kept.kept c.point-point.result c.point-point.ensures (c.args.demand ∷ []) _ c.push.new.self.items c.push-in-Ok-true.new.self.items (ap length (whole s.slots.len c.take_in.new.slots _ len) ∙ count) demands history
 
 pub returns-in-Ok-false-clause-clash : goal.returns-in-Ok-false-clause-clash
 returns-in-Ok-false-clause-clash c e =
@@ -35,4 +40,4 @@ returns-in-Ok-false-clause-clash c e =
     let old : c.as_mut_slice.result.now ≡ s.slots.items = search rules in
     let never : HasNoSolution c.as_mut_slice.result.now (c.args.ask ∷ []) = rw c.in-Ok-false.field-0-test at c.in-Ok-false.ensures.solutions in
     let none : HasNoSolution s.slots.items (c.args.ask ∷ []) = rw old at never in
-    clash_with s.slots.items s.demands.items c.args.demand c.args.ask c.requires.kept.solved c.requires.same none
+    clash_with s.slots.items s.demands.items c.args.demand c.args.ask c.requires.kept.kept.solved c.requires.same none

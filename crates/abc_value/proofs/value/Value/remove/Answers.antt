@@ -31,14 +31,15 @@ returns-then-not-is_at-clause-fault c = λ _.
           c.if-not-is_at.ensures.no (subst P (sym same) k),
     )
 
-pub tallest-self-inside-requires : goal.tallest-self-inside-requires
-tallest-self-inside-requires c =
+pub height_without-self-inside-requires : goal.height_without-self-inside-requires
+height_without-self-inside-requires c =
     let xs = c.in-List.items.items in
     let found = c.if-not-is_at.ensures.yes in
+    let gone = get_or_read xs c.place_of-place.result c.in-Some.gone found.0 c.in-Some.ensures.value c.args.e.now ∙ found.1 in
     let t = remove_takes c.args.e.now xs c.place_of-place.result found.0 (sym found.1) in
     let now = ap (λ ys. trees_height (trees ys)) (c.in-Some.ensures.items) in
     let high = c.self.invariant.0 ∙ ap (λ n. height_of (node_tree n)) c.in-List.is in
-    omega (arith, t.height, now, high)
+    omega (arith, t.height, now, high, c.height.ensures.height, ap height_of gone)
 
 pub overflow_sub-self : goal.overflow_sub-self
 overflow_sub-self c =
@@ -55,8 +56,8 @@ invariant_of-self-2 c =
     let found = c.if-not-is_at.ensures.yes in
     let gone = get_or_read xs c.place_of-place.result c.in-Some.gone found.0 c.in-Some.ensures.value c.args.e.now ∙ found.1 in
     let opened = ap node_tree c.in-List.is in
-    taken_invariant c.args.e.now xs c.remove.new.self.items c.place_of-place.result c.tallest-self-inside.result c.self.inside.weight c.weight.result c.in-Some.ensures.items found.0 (sym found.1)
-    (subst IsRegular opened c.self.invariant.2) (c.tallest-self-inside.ensures) (c.self.invariant.1 ∙ ap weight_of opened) (c.weight.ensures.weight ∙ ap weight_of gone)
+    taken_invariant c.args.e.now xs c.remove.new.self.items c.place_of-place.result c.height_without-self-inside.result c.self.inside.weight c.weight.result c.in-Some.ensures.items found.0 (sym found.1)
+    (subst IsRegular opened c.self.invariant.2) (c.height_without-self-inside.ensures) (c.self.invariant.1 ∙ ap weight_of opened) (c.weight.ensures.weight ∙ ap weight_of gone)
 
 pub returns-clause-ok : goal.returns-clause-ok
 returns-clause-ok c =

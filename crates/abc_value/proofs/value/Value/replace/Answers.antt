@@ -22,8 +22,11 @@ index_mut-requires c =
     let h = subst P (sym same) c.requires.there.0 in
     omega (arith, h, length-map es (λ (e : Entry). e.key))
 
-pub tallest_entry-height-requires : goal.tallest_entry-height-requires
-tallest_entry-height-requires c =
+pub overflow_add-gone : goal.overflow_add-gone
+overflow_add-gone c = let s = regular_sizes c.replace-old.result.associate c.height-gone.ensures.regular in omega (arith, s.0, c.height-gone.ensures.height)
+
+pub height_after-height-requires : goal.height_after-height-requires
+height_after-height-requires c =
     let es = c.in-Table.entries.items in
     let n = c.args.place in
     let opened = ap node_tree c.in-Table.is in
@@ -32,7 +35,8 @@ tallest_entry-height-requires c =
     let after = ap (λ e. slice_set es n e) c.replace-old.ensures.after in
     let now : map as_pair (slice_set es n c.replace-old.new.dest) ≡ with_pair c.args.k c.args.a (map as_pair es) = ap (map as_pair) after ∙ r.is in
     let high = c.self.invariant.0 ∙ ap height_of opened in
-    omega (arith, r.sizes.height, ap (λ fs. pairs_height (pairs (map as_pair fs))) c.deref.ensures.value, ap (λ ps. pairs_height (pairs ps)) now, high, c.height-high.ensures.height)
+    let o = r.sizes.others in
+    (o.0, omega (arith, o.1, high, c.height-gone.ensures.height), omega (arith, o.2, ap (λ ps. pairs_height (pairs ps)) now, c.height-high.ensures.height))
 
 pub overflow_add-weight : goal.overflow_add-weight
 overflow_add-weight c =
@@ -80,10 +84,10 @@ returns-in-Err-clause-sizes c =
     let after = ap (λ e. slice_set es n e) c.replace-old.ensures.after in
     let now : map as_pair (slice_set es n c.replace-old.new.dest) ≡ with_pair c.args.k c.args.a (map as_pair es) = ap (map as_pair) after ∙ r.is in
     let heavy = c.self.invariant.1 ∙ ap weight_of opened in
-    let tall : c.tallest_entry-height.result ≡ pairs_height (pairs (with_pair c.args.k c.args.a (map as_pair es))) = c.tallest_entry-height.ensures ∙ ap (λ fs. pairs_height (pairs (map as_pair fs))) c.deref.ensures.value ∙ ap (λ ps. pairs_height (pairs ps)) now in
+    let tall : c.height_after-height.result ≡ pairs_height (pairs (with_pair c.args.k c.args.a (map as_pair es))) = c.height_after-height.ensures ∙ ap (λ ps. pairs_height (pairs ps)) now in
     let load : c.self.inside.weight + c.weight-heavy.result - c.weight.result ≡ pairs_weight (pairs (with_pair c.args.k c.args.a (map as_pair es))) + 5 = omega (arith, heavy, r.sizes.weight, c.weight-heavy.ensures.weight, c.weight.ensures.weight) in
     let count : c.len.result ≡ length es = omega (arith, c.len.ensures) in
-    λ _. sym (r.fault c.len.result c.tallest_entry-height.result (c.self.inside.weight + c.weight-heavy.result - c.weight.result) count tall load) ∙ c.in-Err.ensures
+    λ _. sym (r.fault c.len.result c.height_after-height.result (c.self.inside.weight + c.weight-heavy.result - c.weight.result) count tall load) ∙ c.in-Err.ensures
 
 pub returns-in-Err-clause-err : goal.returns-in-Err-clause-err
 returns-in-Err-clause-err c =
@@ -103,11 +107,11 @@ invariant_of-self-2 c =
     let after = ap (λ e. slice_set es n e) c.replace-old.ensures.after in
     let now : map as_pair (slice_set es n c.replace-old.new.dest) ≡ with_pair c.args.k c.args.a (map as_pair es) = ap (map as_pair) after ∙ r.is in
     let heavy = c.self.invariant.1 ∙ ap weight_of opened in
-    let tall : c.tallest_entry-height.result ≡ pairs_height (pairs (with_pair c.args.k c.args.a (map as_pair es))) = c.tallest_entry-height.ensures ∙ ap (λ fs. pairs_height (pairs (map as_pair fs))) c.deref.ensures.value ∙ ap (λ ps. pairs_height (pairs ps)) now in
+    let tall : c.height_after-height.result ≡ pairs_height (pairs (with_pair c.args.k c.args.a (map as_pair es))) = c.height_after-height.ensures ∙ ap (λ ps. pairs_height (pairs ps)) now in
     let load : c.self.inside.weight + c.weight-heavy.result - c.weight.result ≡ pairs_weight (pairs (with_pair c.args.k c.args.a (map as_pair es))) + 5 = omega (arith, heavy, r.sizes.weight, c.weight-heavy.ensures.weight, c.weight.ensures.weight) in
     let count : c.len.result ≡ length es = omega (arith, c.len.ensures) in
     let was = subst IsRegular opened c.self.invariant.2 in
-    r.keeps (map as_pair (slice_set es n c.replace-old.new.dest)) c.len.result c.tallest_entry-height.result (c.self.inside.weight + c.weight-heavy.result - c.weight.result) now (r.key was) c.height-high.ensures.regular was count tall load c.in_default-check_sizes.ensures
+    r.keeps (map as_pair (slice_set es n c.replace-old.new.dest)) c.len.result c.height_after-height.result (c.self.inside.weight + c.weight-heavy.result - c.weight.result) now (r.key was) c.height-high.ensures.regular was count tall load c.in_default-check_sizes.ensures
 
 pub returns-clause-ok : goal.returns-clause-ok
 returns-clause-ok c =
@@ -130,7 +134,7 @@ returns-clause-sizes c =
     let after = ap (λ e. slice_set es n e) c.replace-old.ensures.after in
     let now : map as_pair (slice_set es n c.replace-old.new.dest) ≡ with_pair c.args.k c.args.a (map as_pair es) = ap (map as_pair) after ∙ r.is in
     let heavy = c.self.invariant.1 ∙ ap weight_of opened in
-    let tall : c.tallest_entry-height.result ≡ pairs_height (pairs (with_pair c.args.k c.args.a (map as_pair es))) = c.tallest_entry-height.ensures ∙ ap (λ fs. pairs_height (pairs (map as_pair fs))) c.deref.ensures.value ∙ ap (λ ps. pairs_height (pairs ps)) now in
+    let tall : c.height_after-height.result ≡ pairs_height (pairs (with_pair c.args.k c.args.a (map as_pair es))) = c.height_after-height.ensures ∙ ap (λ ps. pairs_height (pairs ps)) now in
     let load : c.self.inside.weight + c.weight-heavy.result - c.weight.result ≡ pairs_weight (pairs (with_pair c.args.k c.args.a (map as_pair es))) + 5 = omega (arith, heavy, r.sizes.weight, c.weight-heavy.ensures.weight, c.weight.ensures.weight) in
     let count : c.len.result ≡ length es = omega (arith, c.len.ensures) in
-    sym (r.fault c.len.result c.tallest_entry-height.result (c.self.inside.weight + c.weight-heavy.result - c.weight.result) count tall load) ∙ c.in_default-check_sizes.ensures
+    sym (r.fault c.len.result c.height_after-height.result (c.self.inside.weight + c.weight-heavy.result - c.weight.result) count tall load) ∙ c.in_default-check_sizes.ensures

@@ -1,0 +1,34 @@
+//! What holds of each part of a run, whatever it runs. All nodes at all depths are spoken of: values, actuals, tests and commands.
+ghost use Rattle.abc_meaning.specs.Laws.{StepsNeverRise, OutputGrows, LinesAreTaken, MoreLinesChangeNothing, CommandIsSameWithMore, NamesStayInOrder, OnlyPlacesAreMarked};
+
+/// The steps left never rise.
+pub fn steps_never_rise()
+    ensures { StepsNeverRise }
+{}
+
+/// Output only grows, behind what was there.
+pub fn output_grows()
+    ensures { OutputGrows }
+{}
+
+/// Lines are taken from the front alone, so the lines left are an end of those before.
+pub fn lines_are_taken()
+    ensures { LinesAreTaken }
+{}
+
+/// A run that doesn't want a line is the same with more lines behind: it gives the same, with the same output and steps, and these
+/// lines are left too. So it is for each node, and for an immediate command as a whole.
+pub fn more_lines_change_nothing()
+    ensures nodes { MoreLinesChangeNothing }
+    ensures command { CommandIsSameWithMore }
+{}
+
+/// Targets and names stay in order, so that none stands twice.
+pub fn names_stay_in_order()
+    ensures { NamesStayInOrder }
+{}
+
+/// A formal counts as changed only where its actual is an address, so that each of those has a place where it is put back.
+pub fn only_places_are_marked()
+    ensures { OnlyPlacesAreMarked }
+{}

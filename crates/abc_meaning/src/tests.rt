@@ -1,0 +1,18 @@
+//! That the laws are there to be called.
+use crate::laws::{
+    lines_are_taken, more_lines_change_nothing, names_stay_in_order, only_places_are_marked,
+    output_grows, steps_never_rise,
+};
+use std::test::Fail;
+
+#[test]
+fn laws_are_called(rt: HostRuntime) -> Result<(), Fail> {
+    steps_never_rise();
+    output_grows();
+    lines_are_taken();
+    more_lines_change_nothing();
+    names_stay_in_order();
+    only_places_are_marked();
+    assert!(rt; true);
+    Ok(())
+}

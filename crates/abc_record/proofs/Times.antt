@@ -1,0 +1,42 @@
+-- Reading so many of a kind one after the other, as a loop does.
+use Rattle.std.proofs.Common.{◌≡◌, ℕ, suc, ◌-◌, ◌+◌, ◌≤◌, ◌<◌, List, [], ◌∷◌, ◌++◌, Option, Some, None, refl, sym, ap, ◌∙◌, append_assoc, arith}
+use Rattle.std.proofs.lemmas.List.{append-nil}
+use Rattle.abc_record.specs.declared.faults.ReadFault.{ReadFault}
+use Rattle.abc_record.specs.declared.faults.ReadFault.TheVariants.{Bad, Memory}
+use Rattle.abc_record.specs.inner.Reading.{Found, ◌>>=◌, Fails, times}
+
+-- what was read before, and what is still read
+abbrev pub with_front : {A : Type 0} → List A → Found (List A) → Found (List A)
+with_front front read = read >>= λ x. Some (front ++ x.0, x.1)
+
+regroup : {A : Type 0} (front : List A) (n : A) (read : Found (List A)) → with_front front (read >>= λ x. Some (n ∷ x.0, x.1)) ≡ with_front (front ++ n ∷ []) read
+regroup {A} front n (Some x) = ap (λ (ns : List A). Some (ns, x.1)) (simp append_assoc)
+regroup front n None = refl
+
+pub starts : {A : Type 0} (total : Found (List A)) → with_front [] total ≡ total
+starts (Some x) = refl
+starts None = refl
+
+pub goes_on : {A : Type 0} (one : List ℕ → Found A) (front : List A) (count i : ℕ) (bytes : List ℕ) (n : A) (after : List ℕ) (total : Found (List A)) → i < count → one bytes ≡ Some (n, after)
+    → with_front front (times one (count - i) bytes) ≡ total → with_front (front ++ n ∷ []) (times one (count - (i + 1)) after) ≡ total
+unfolding times
+goes_on one front count i bytes n after total lt h so_far =
+    let k : count - i ≡ suc (count - (i + 1)) = omega arith in
+    let same : with_front front (times one (count - i) bytes) ≡ with_front (front ++ n ∷ []) (times one (count - (i + 1)) after) = rw (k, h) (regroup front n (times one (count - (i + 1)) after)) in
+    sym same ∙ so_far
+
+pub ends : {A : Type 0} (one : List ℕ → Found A) (fault : ReadFault) (front : List A) (count i : ℕ) (bytes : List ℕ) (total : Found (List A)) → i < count → Fails fault (one bytes)
+    → with_front front (times one (count - i) bytes) ≡ total → Fails fault total
+unfolding times
+ends one Memory front count i bytes total lt h so_far = tt
+ends one Bad front count i bytes total lt h so_far =
+    let k : count - i ≡ suc (count - (i + 1)) = omega arith in
+    let none : with_front front (times one (count - i) bytes) ≡ None = rw (k, h) refl in
+    sym so_far ∙ none
+
+pub is_done : {A : Type 0} (one : List ℕ → Found A) (front : List A) (count i : ℕ) (bytes : List ℕ) (total : Found (List A)) → count ≤ i → with_front front (times one (count - i) bytes) ≡ total → total ≡ Some (front, bytes)
+unfolding times
+is_done {A} one front count i bytes total le so_far =
+    let k : count - i ≡ 0 = omega arith in
+    let all : with_front front (times one (count - i) bytes) ≡ Some (front, bytes) = rw k (ap (λ (ns : List A). Some (ns, bytes)) (append-nil front)) in
+    sym so_far ∙ all

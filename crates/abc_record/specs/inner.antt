@@ -1,0 +1,3 @@
+-- Definitions that are steps of the code.
+pub mod Reading
+pub mod Writing

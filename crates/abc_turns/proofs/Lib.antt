@@ -1,0 +1,6 @@
+pub mod Points
+pub mod Endings
+pub mod Fronts
+pub mod Unfolding
+pub mod Using
+mod Rows
