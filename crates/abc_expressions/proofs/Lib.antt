@@ -9,6 +9,7 @@ pub mod ReaderSteps
 pub mod NumberValues
 pub mod TextParts
 pub mod Conversions
+mod ConversionEnds
 pub mod TokenParts
 pub mod SplitSteps
 pub mod TreeSteps

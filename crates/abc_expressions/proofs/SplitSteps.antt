@@ -10,7 +10,7 @@ use Rattle.abc_expressions.specs.declared.texts.Found.TheVariants as found
 use Rattle.abc_expressions.specs.declared.texts.Part.{Part}
 use Rattle.abc_expressions.specs.declared.texts.Part.TheVariants as part
 use Rattle.abc_expressions.specs.inner.Machine.{Splitting, conversion_from, before_parts, converted, at_backquote, split}
-use Rattle.abc_expressions.specs.inner.Splitting.{is_end, IsEndAt, Cuts, glued, flushed}
+use Rattle.abc_expressions.specs.inner.Splitting.{IsEndAt, Cuts, glued, flushed}
 use Rattle.abc_expressions.specs.Texts.{with_character}
 use Rattle.abc_expressions.proofs.TextParts.{split_skip, by_table}
 
@@ -77,27 +77,6 @@ pub nothing_left : (q : ℕ) (bytes : List ℕ) → length bytes ≡ 0 → split
 unfolding split
 nothing_left q [] e = refl
 nothing_left q (b ∷ bytes) e = absurd (omega arith)
-
--- ---- where a conversion ends
-
-module _ (bytes : List ℕ) (at : ℕ) (byte : ℕ) (in_bytes : at < length bytes) (is : byte ≡ get_or bytes at 0)
-    (so_far : conversion_from (take at bytes) (drop at bytes) ≡ conversion_from [] bytes) where
-  here : (x : Bool) → is_end byte (take at bytes) ≡ x → conversion_from [] bytes ≡ (if x then Some (take at bytes) else conversion_from (take at bytes ++ byte ∷ []) (drop (suc at) bytes))
-  unfolding conversion_from
-  here x e =
-      sym so_far ∙ ap (conversion_from (take at bytes)) (drop-cons bytes at 0 in_bytes ∙ ap (λ z. z ∷ drop (suc at) bytes) (sym is))
-      ∙ ap (λ x. if x then Some (take at bytes) else conversion_from (take at bytes ++ byte ∷ []) (drop (suc at) bytes)) e
-
-  pub ends_here : is_end byte (take at bytes) ≡ true → conversion_from [] bytes ≡ Some (take at bytes)
-  ends_here e = here true e
-
-  pub goes_further : is_end byte (take at bytes) ≡ false → conversion_from (take (suc at) bytes) (drop (suc at) bytes) ≡ conversion_from [] bytes
-  goes_further e =
-      ap (λ z. conversion_from z (drop (suc at) bytes)) (take-suc bytes at 0 in_bytes ∙ ap (λ z. take at bytes ++ z ∷ []) (sym is)) ∙ sym (here false e)
-
-pub never_ends : (bytes : List ℕ) (at : ℕ) → length bytes ≤ at → conversion_from (take at bytes) (drop at bytes) ≡ conversion_from [] bytes → conversion_from [] bytes ≡ None
-unfolding conversion_from
-never_ends bytes at l h = sym h ∙ ap (conversion_from (take at bytes)) (drop_all at bytes l)
 
 -- ---- what was found
 

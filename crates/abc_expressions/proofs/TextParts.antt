@@ -74,7 +74,7 @@ module _ (law : OneReading) where
       less (inl l) = l
       less (inr g) = absurd (at_it (omega (arith, le, g)))
 
-  conversion_found : (inner rest : List ℕ) (bytes passed : List ℕ) → passed ++ bytes ≡ inner ++ backquote ∷ rest
+  pub conversion_found : (inner rest : List ℕ) (bytes passed : List ℕ) → passed ++ bytes ≡ inner ++ backquote ∷ rest
       → ((ts : List Token) × AreBare inner ts)
       → ((front more : List ℕ) (ts : List Token) → passed ++ bytes ≡ front ++ backquote ∷ more → AreBare front ts → length inner ≤ length front)
       → length passed ≤ length inner → conversion_from passed bytes ≡ Some inner
@@ -113,7 +113,7 @@ module _ (law : OneReading) where
           let yes : ((b == backquote) && has_bare passed) ≡ true = ap (λ c. c && has_bare passed) (eq-eqb b backquote h.0) ∙ t in
           cc
 
-  conversion_told : (inner : List ℕ) (bytes passed : List ℕ)
+  pub conversion_told : (inner : List ℕ) (bytes passed : List ℕ)
       → ((front more : List ℕ) (ts : List Token) → passed ++ bytes ≡ front ++ backquote ∷ more → AreBare front ts → length passed ≤ length front)
       → conversion_from passed bytes ≡ Some inner → (rest : List ℕ) × IsConversion (passed ++ bytes) inner rest
   unfolding conversion_from

@@ -1,10 +1,7 @@
 //! What the grammar sees of tokens.
-ghost use Rattle.std.specs.Prelude.{◌≡◌, ◌==◌, map, All, IfOk, IfSome, Some};
-ghost use Rattle.std.specs.List.{list_all};
-ghost use Rattle.abc_tokens.specs.Bytes.{space};
+ghost use Rattle.std.specs.Prelude.{◌≡◌, map, All, IfOk, IfSome, Some};
 ghost use Rattle.abc_expressions.specs.Lexemes.{seen, ArePart, IsWithin, IsSpelled};
-ghost use Rattle.abc_expressions.specs.inner.Machine.{has_bare, lexed};
-ghost use Rattle.abc_expressions.specs.Texts.{end_of, is_bare};
+ghost use Rattle.abc_expressions.specs.inner.Machine.{lexed};
 
 use crate::signs::{Sign, sign_by};
 use abc_num::{Items, OutOfMemory, Text};
@@ -54,43 +51,6 @@ pub fn lexemes_of(
         lexemes.push(lexeme_at(alloc, line, *token)?)?;
     }
     Ok(lexemes)
-}
-
-fn end_of(tokens: &[Token]) -> usize
-    ensures { result ≡ end_of tokens.now }
-{
-    match tokens.last() {
-        Some(token) => token.end,
-        None => 0,
-    }
-}
-
-fn are_spaces(bytes: &[u8]) -> bool
-    ensures { result ≡ list_all (λ b. b == space) bytes.now }
-{
-    bytes.iter().all(|byte| *byte == b' ')
-}
-
-/// Whether spaces alone stand behind these tokens of the bytes.
-fn is_bare(bytes: &[u8], tokens: &[Token]) -> bool
-    requires { All (IsWithin bytes.now) tokens.now }
-    ensures { result ≡ is_bare bytes.now tokens.now }
-{
-    are_spaces(&bytes[end_of(tokens)..])
-}
-
-/// Whether these bytes have tokens without a fault, and no comment.
-pub(crate) fn has_bare(alloc: Global, bytes: &[u8]) -> Result<bool, OutOfMemory>
-    ensures { IfOk result (λ b. b ≡ has_bare bytes.now) }
-{
-    one_reading();
-    match tokens(alloc, bytes) {
-        Ok(tokens) => Ok(is_bare(bytes, &tokens)),
-        Err(TokenFault::Memory) => Err(OutOfMemory),
-        Err(TokenFault::BadByte) => Ok(false),
-        Err(TokenFault::OpenText) => Ok(false),
-        Err(TokenFault::BadNumber) => Ok(false),
-    }
 }
 
 /// The tokens of these bytes, if they have no fault.

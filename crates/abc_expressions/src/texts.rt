@@ -1,12 +1,12 @@
 //! The parts of a text: its characters, and the bytes of its conversions.
-ghost use Rattle.std.specs.Prelude.{◌≡◌, ◌≢◌, ◌∷◌, ◌++◌, List, ◌==◌, IfOk};
+ghost use Rattle.std.specs.Prelude.{◌≡◌, ◌≢◌, ◌≤◌, ◌∷◌, ◌++◌, List, ◌==◌, IfOk, length};
 ghost use Rattle.abc_tokens.specs.Bytes.{backquote, begins};
 ghost use Rattle.abc_expressions.specs.declared.texts.Part.{Part};
 ghost use Rattle.abc_expressions.specs.inner.Machine.{split, split_text};
-ghost use Rattle.abc_expressions.specs.inner.Splitting.{IsEndAt, is_end, Cuts, with_found, all_parts, flushed};
+ghost use Rattle.abc_expressions.specs.inner.Splitting.{IsEndAt, Cuts, with_found, all_parts, flushed};
 
-use crate::lexemes::has_bare;
 use abc_num::{Items, OutOfMemory, Text};
+use abc_tokens::{conversion_end, one_reading};
 use std::alloc::Global;
 
 /// A part of a text.
@@ -41,28 +41,13 @@ struct SoFar {
     run: Vec<u8>,
 }
 
-/// Whether a conversion with these bytes ends at this byte.
-fn is_end(alloc: Global, byte: u8, inner: &[u8]) -> Result<bool, OutOfMemory>
-    ensures { IfOk result (λ b. b ≡ is_end byte inner.now) }
+/// Where the conversion with which the bytes begin ends. `marks` has room for the quotes of all texts in it.
+fn end_of_conversion(bytes: &[u8], marks: &mut [u8]) -> Option<usize>
+    requires { length bytes.now ≤ length marks.old }
+    ensures { IsEndAt bytes.now result }
 {
-    if byte != b'`' {
-        return Ok(false);
-    }
-    has_bare(alloc, inner)
-}
-
-/// Where the conversion with which the bytes begin ends.
-fn conversion_end(alloc: Global, bytes: &[u8]) -> Result<Option<usize>, OutOfMemory>
-    ensures { IfOk result (IsEndAt bytes.now) }
-{
-    let mut at = 0;
-    while at < bytes.len() {
-        if is_end(alloc, bytes[at], &bytes[..at])? {
-            return Ok(Some(at));
-        }
-        at += 1;
-    }
-    Ok(None)
+    one_reading();
+    conversion_end(bytes, marks)
 }
 
 fn at_quote(quote: u8, rest: &[u8]) -> Cut
@@ -86,14 +71,15 @@ fn begins_backquote(bytes: &[u8]) -> bool
     matches!(bytes, [b'`', ..])
 }
 
-fn at_backquote(alloc: Global, quote: u8, rest: &[u8]) -> Result<Cut, OutOfMemory>
-    requires { quote ≢ backquote }
+fn at_backquote(alloc: Global, quote: u8, rest: &[u8], marks: &mut [u8]) -> Result<Cut, OutOfMemory>
+    requires quote { quote ≢ backquote }
+    requires room { length rest.now ≤ length marks.old }
     ensures { IfOk result (Cuts quote (backquote ∷ rest.now)) }
 {
     if begins_backquote(rest) {
         return Ok(Cut::Part(Found::Character(b'`'), 2));
     }
-    match conversion_end(alloc, rest)? {
+    match end_of_conversion(rest, marks) {
         Some(end) => {
             let inner = Text::of(alloc, &rest[..end])?;
             Ok(Cut::Part(Found::Conversion(inner), end + 2))
@@ -103,7 +89,8 @@ fn at_backquote(alloc: Global, quote: u8, rest: &[u8]) -> Result<Cut, OutOfMemor
 }
 
 /// The first of what is left of a text.
-fn first_of(alloc: Global, quote: u8, bytes: &[u8]) -> Result<Cut, OutOfMemory>
+fn first_of(alloc: Global, quote: u8, bytes: &[u8], marks: &mut [u8]) -> Result<Cut, OutOfMemory>
+    requires { length bytes.now ≤ length marks.old }
     ensures { IfOk result (Cuts quote bytes.now) }
 {
     let Some((byte, rest)) = bytes.split_first() else {
@@ -113,7 +100,7 @@ fn first_of(alloc: Global, quote: u8, bytes: &[u8]) -> Result<Cut, OutOfMemory>
         return Ok(at_quote(quote, rest));
     }
     if *byte == b'`' {
-        return at_backquote(alloc, quote, rest);
+        return at_backquote(alloc, quote, rest, marks);
     }
     Ok(Cut::Part(Found::Character(*byte), 1))
 }
@@ -156,9 +143,10 @@ fn split(alloc: Global, quote: u8, body: &[u8]) -> Result<Option<Items<Part>>, O
         parts: Vec::new(alloc),
         run: Vec::new(alloc),
     };
+    let mut marks = vec![in alloc; 0u8; body.len()]?;
     let mut ahead = body;
     'parts: loop {
-        let (found, length) = match first_of(alloc, quote, ahead)? {
+        let (found, length) = match first_of(alloc, quote, ahead, &mut marks)? {
             Cut::End => return Ok(Some(Items::from_vec(flushed(so_far.parts, so_far.run)?))),
             Cut::Wrong => return Ok(None),
             Cut::Part(found, length) => (found, length),
@@ -168,7 +156,7 @@ fn split(alloc: Global, quote: u8, body: &[u8]) -> Result<Option<Items<Part>>, O
     }
 }
 
-/// The parts of this text token.
+/// The parts of this text token. Each byte is read a few times, in conversions too.
 ///
 /// ```text
 /// text = quote { character | conversion } quote

@@ -12,7 +12,7 @@ use Rattle.abc_tokens.specs.Tokens.{HasTokens, IsSound, IsBadNumber, AreTokens, 
 abbrev pub OneReading : Type 0
 OneReading = (line : List ℕ) (ts : List Token) (ns : List (List ℕ)) → HasTokens line ts ns ↔ (scanned false (length line) line 0 ≡ Some (ts, ns))
 
-sound_bad : (ns : List (List ℕ)) → All IsSound ns → Any IsBadNumber ns → ⊥
+pub sound_bad : (ns : List (List ℕ)) → All IsSound ns → Any IsBadNumber ns → ⊥
 sound_bad ns h (k, n, l, e, bad) = let s = subst IsSound e (h k n l) in bad s.0 s.1.0 s.1.1
 
 pub no_tokens : OneReading → (line : List ℕ) (fault : TokenFault) → HasFault line fault → (fault ≡ Memory → ⊥) → (ts : List Token) → AreTokens line ts → ⊥

@@ -12,6 +12,7 @@ pub mod Faults
 pub mod Placed
 pub mod Bare
 pub mod OneConversion
+mod ConversionSteps
 mod TokenLaws
 mod Fronts
 mod EndsSteps

@@ -9,3 +9,4 @@ pub mod Scanned
 pub mod Kinds
 pub mod Values
 pub mod ReadLine
+pub mod ConversionEnds

@@ -2,6 +2,7 @@
 #![tactic(auto)]
 
 mod bytes;
+mod converting;
 mod kinds;
 mod laws;
 mod scan;
@@ -9,6 +10,7 @@ mod shaping;
 mod texts;
 mod words;
 
+pub use converting::conversion_end;
 pub use kinds::{First, Shape, Token, TokenFault, TokenKind};
 pub use laws::{
     computed_tokens, computed_values, computed_words, conversion_tokens, longest_text, one_reading,

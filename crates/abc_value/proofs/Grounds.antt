@@ -5,15 +5,23 @@ use Rattle.abc_num.specs.declared.types.Ground.TheVariants as type
 use Rattle.abc_num.specs.declared.types.Ground.TheOpen as layer
 use denote.Hole.Carrier.{out}
 
-list_opens : (x : Ground) → out-Ground (type.List x) ≡ layer.List x
+pub number_opens : out-Ground type.Number ≡ layer.Number
+unfolding out-Ground out
+number_opens = search (rules, the_lemmas)
+
+pub text_opens : out-Ground type.Text ≡ layer.Text
+unfolding out-Ground out
+text_opens = search (rules, the_lemmas)
+
+pub list_opens : (x : Ground) → out-Ground (type.List x) ≡ layer.List x
 unfolding out-Ground out
 list_opens x = search (rules, the_lemmas)
 
-compound_opens : (xs : List Ground) → out-Ground (type.Compound xs) ≡ layer.Compound xs
+pub compound_opens : (xs : List Ground) → out-Ground (type.Compound xs) ≡ layer.Compound xs
 unfolding out-Ground out
 compound_opens xs = search (rules, the_lemmas)
 
-table_opens : (x y : Ground) → out-Ground (type.Table x y) ≡ layer.Table x y
+pub table_opens : (x y : Ground) → out-Ground (type.Table x y) ≡ layer.Table x y
 unfolding out-Ground out
 table_opens x y = simp the_lemmas
 

@@ -28,3 +28,4 @@ pub mod ShapeLooks
 pub mod ShapeSteps
 pub mod Shaping
 pub mod Tables
+pub mod TypesOfValues

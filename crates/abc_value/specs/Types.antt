@@ -34,3 +34,13 @@ abbrev mutual
   pub pairs_have : Pairs → Ground → Ground → Type 0
   pairs_have no_pairs k a = Unit {0}
   pairs_have (pair l b ps) k a = has l k × has b a × pairs_have ps k a
+
+-- The same of values in a list: each has the type at its place, or all have one type.
+abbrev pub each_listed : List Tree → List Ground → Type 0
+each_listed [] [] = Unit {0}
+each_listed (t ∷ ts) (g ∷ gs) = has t g × each_listed ts gs
+each_listed _ _ = ⊥
+
+abbrev pub all_listed : List Tree → Ground → Type 0
+all_listed [] g = Unit {0}
+all_listed (t ∷ ts) g = has t g × all_listed ts g

@@ -1,6 +1,5 @@
 -- What the steps of splitting a text do.
-use Rattle.std.specs.Prelude.{◌≡◌, ◌≤◌, ◌<◌, ℕ, Bool, ◌&&◌, ◌==◌, List, [], ◌∷◌, ◌++◌, length, take, drop, Option, Some, None}
-use Rattle.abc_tokens.specs.Bytes.{backquote}
+use Rattle.std.specs.Prelude.{◌≡◌, ◌≤◌, ◌<◌, ℕ, List, [], ◌∷◌, ◌++◌, length, take, drop, Option, Some, None}
 use Rattle.abc_expressions.specs.declared.texts.Cut.{Cut}
 use Rattle.abc_expressions.specs.declared.texts.Cut.TheVariants as cut
 use Rattle.abc_expressions.specs.declared.texts.Found.{Found}
@@ -8,12 +7,8 @@ use Rattle.abc_expressions.specs.declared.texts.Found.TheVariants as found
 use Rattle.abc_expressions.specs.declared.texts.Part.{Part}
 use Rattle.abc_expressions.specs.declared.texts.Part.TheVariants as part
 use Rattle.abc_expressions.specs.declared.texts.SoFar.{SoFar}
-use Rattle.abc_expressions.specs.inner.Machine.{has_bare, conversion_from, before_parts, split}
+use Rattle.abc_expressions.specs.inner.Machine.{conversion_from, before_parts, split}
 use Rattle.abc_expressions.specs.Texts.{with_character}
-
--- a conversion with these bytes ends at this byte
-abbrev pub is_end : ℕ → List ℕ → Bool
-is_end b inner = (b == backquote) && has_bare inner
 
 -- the conversion in front ends here
 abbrev pub IsEndAt : List ℕ → Option ℕ → Type 0
