@@ -1,0 +1,33 @@
+-- Taking a line, by what is unread.
+use Rattle.std.proofs.Common.{◌≡◌, ◌≤◌, ℕ, List, [], ◌∷◌, length, Option, Some, None, zero, suc, take, subst, arith, refl, sym, ap, ◌∙◌}
+use Rattle.abc_value.specs.Tree.{Tree}
+use Rattle.abc_num.specs.Lines.{without_cr}
+use Rattle.abc_num.specs.declared.limits.TheConstants.{MOST_LINE_BYTES}
+use Rattle.abc_num.specs.declared.lines.RawLine.{RawLine}
+use Rattle.abc_outside.specs.Lines.{Unread, lines_in, IsFirst, IsWithinLine, FirstIsFirst, WithinHasNone}
+use Rattle.abc_meaning.specs.State.{State, wants, gives, stops}
+use Rattle.abc_meaning.specs.Here.{Here}
+use Rattle.abc_meaning.specs.Reading.{taken, take_line}
+use Rattle.abc_acts.specs.Words.{with_lines}
+
+pub taken_first : (here : Here) (s : State) (old new : Unread) (line : RawLine) → FirstIsFirst → IsFirst old line new → take_line here (with_lines old s) ≡ gives line (with_lines new s)
+taken_first here s old new line law first =
+    ap (λ ls. taken here ls old.ends (record s { lines = ls; ended = old.ends })) (law old new line first) ∙ ap (λ e. gives line (record s { lines = lines_in new; ended = e })) (sym first.ends)
+
+pub wanted : (here : Here) (s : State) (old : Unread) → WithinHasNone → IsWithinLine old → take_line here (with_lines old s) ≡ stops here.line wants (with_lines old s)
+wanted here s old law within =
+    ap (λ ls. taken here ls old.ends (with_lines old s)) (law old within) ∙ ap (λ e. taken here [] e (with_lines old s)) within.1
+
+-- a line that spells no value
+pub no_literal : (o : Option Tree) → ((t : Tree) → o ≡ Some t → ⊥) → o ≡ None
+no_literal None h = refl
+no_literal (Some t) h = absurd (h t refl)
+
+-- a line has no more bytes than a line may have
+take_short : (n : ℕ) (b : List ℕ) → length (take n b) ≤ n
+take_short zero b = omega arith
+take_short (suc n) [] = omega arith
+take_short (suc n) (x ∷ b) = let h = take_short n b in omega arith
+
+pub short_first : (old new : Unread) (line : RawLine) → IsFirst old line new → length line.bytes ≤ MOST_LINE_BYTES
+short_first old new line f = subst (λ l. length l.bytes ≤ MOST_LINE_BYTES) (sym f.is_line) (take_short MOST_LINE_BYTES (without_cr f.text))

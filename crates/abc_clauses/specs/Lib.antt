@@ -1,0 +1,7 @@
+-- What one line of an item says.
+pub mod inner
+pub mod Cuts
+pub mod Names
+pub mod Says
+pub mod Readings
+pub mod Formulas

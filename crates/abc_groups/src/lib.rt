@@ -1,0 +1,18 @@
+//! Which templates the units reach by calls, which of them are missing, and which units call each other.
+#![tactic(auto)]
+
+mod explore;
+mod found;
+mod graph;
+mod grouping;
+mod indexed;
+mod missing;
+mod program;
+mod reaching;
+mod search;
+mod sorted;
+
+pub use graph::{Calls, Templates, graph_of};
+pub use grouping::groups;
+pub use missing::{first_missing, first_missing_in};
+pub use reaching::{reach, reach_from};

@@ -1,0 +1,2 @@
+-- Lemmas on the pending work.
+pub mod Levels

@@ -1,0 +1,2 @@
+-- How the machine is seen.
+pub mod inner

@@ -1,0 +1,10 @@
+-- Lemmas on outlines and names.
+mod Places
+mod ReadRows
+mod Cuts
+mod Gathered
+mod Joined
+mod Told
+mod Owned
+mod NameKinds
+mod Worked

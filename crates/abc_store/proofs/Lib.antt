@@ -1,0 +1,4 @@
+pub mod Targets
+pub mod Images
+mod Stepping
+mod Rows

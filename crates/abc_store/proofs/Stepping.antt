@@ -1,0 +1,85 @@
+-- The answers of the journal, by their kinds, and how the steps of a commit come to the whole.
+use Rattle.std.proofs.Common.{◌≡◌, ◌∙◌, ℕ, Bool, true, false, cond, List, Option, None, Some, sym, ap, subst, refl}
+use Rattle.std.specs.Prelude.{Result, Ok, Err, OnOk, IfErr, IsErrOf}
+use Rattle.abc_journal.specs.declared.faults.AppendFault.{AppendFault}
+use Rattle.abc_journal.specs.declared.faults.AppendFault.TheVariants.{StoreFault, StoreFull, Memory}
+use Rattle.abc_journal.specs.declared.layout.Bounds.{Bounds}
+use Rattle.abc_journal.specs.declared.layout.Layout.{Layout}
+use Rattle.abc_journal.specs.Journal.{IsFull, need_of, after_record}
+use Rattle.abc_journal.specs.Commit.{Full, AnswersTo, and_then, recorded, checkpointed, with_room, with_due, is_due, committed}
+use Rattle.abc_store.specs.Workspace.{Workspace}
+use Rattle.abc_store.specs.inner.Steps.{IsNoFault, IsCheckpoint, IsMadeUp, TakesDue, fits, may_be_due}
+
+-- what holds after each answer but a fault
+pub unless_fault : {T : Type 0} (r : Result T AppendFault) (P : Type 0) → OnOk r P → (IsFull r → P) → (IsErrOf r Memory → ⊥) → IsNoFault r → P
+unless_fault (Ok x) P ok full memory none_wrong = ok
+unless_fault (Err StoreFault) P ok full memory none_wrong = absurd none_wrong
+unless_fault (Err Memory) P ok full memory none_wrong = absurd (memory refl)
+unless_fault (Err (StoreFull need limit)) P ok full memory none_wrong = full tt
+
+-- what holds after Ok, where every other answer is a fault
+pub ok_alone : {T : Type 0} (r : Result T AppendFault) (P : Type 0) → OnOk r P → IfErr r (λ fault. fault ≡ StoreFault) → IsNoFault r → P
+ok_alone (Ok x) P ok other none_wrong = ok
+ok_alone (Err StoreFault) P ok other none_wrong = absurd none_wrong
+ok_alone (Err Memory) P ok other none_wrong = absurd (cc)
+ok_alone (Err (StoreFull need limit)) P ok other none_wrong = absurd (cc)
+
+module _ (bounds : Bounds) (layout : Layout) (bytes before after : ℕ) where
+  abbrev record_in : Layout → Result Layout Full
+  record_in roomy = and_then (recorded bounds roomy bytes) (λ added. Ok (with_due bounds added after))
+
+  by_room : (found : Result Layout Full) → with_room bounds layout bytes before ≡ found → committed bounds layout bytes before after ≡ and_then found record_in
+  unfolding committed
+  by_room found is = ap (λ w. and_then w record_in) is
+
+  by_record : (roomy : Layout) (found : Result Layout Full) → with_room bounds layout bytes before ≡ Ok roomy → recorded bounds roomy bytes ≡ found
+      → committed bounds layout bytes before after ≡ and_then found (λ added. Ok (with_due bounds added after))
+  by_record roomy found is recorded_is = by_room (Ok roomy) is ∙ ap (λ w. and_then w (λ added. Ok (with_due bounds added after))) recorded_is
+
+  -- no room is made
+  pub room_fails : {T : Type 0} (r : Result T AppendFault) (new : Layout) → OnOk r ⊥ → AnswersTo r new (with_room bounds layout bytes before) → AnswersTo r new (committed bounds layout bytes before after)
+  room_fails (Ok x) new failed a = absurd failed
+  room_fails (Err StoreFault) new failed a = tt
+  room_fails (Err Memory) new failed a = tt
+  room_fails (Err (StoreFull need limit)) new failed a = (a.0, by_room (Err a.0) a.1, a.2, a.3)
+
+  -- the record isn't added
+  pub record_fails : {T : Type 0} (r : Result T AppendFault) (roomy new : Layout) → OnOk r ⊥ → with_room bounds layout bytes before ≡ Ok roomy → AnswersTo r new (recorded bounds roomy bytes)
+      → AnswersTo r new (committed bounds layout bytes before after)
+  record_fails (Ok x) roomy new failed is a = absurd failed
+  record_fails (Err StoreFault) roomy new failed is a = tt
+  record_fails (Err Memory) roomy new failed is a = tt
+  record_fails (Err (StoreFull need limit)) roomy new failed is a = (a.0, by_record roomy (Err a.0) is a.1, a.2, a.3)
+
+  -- all is done
+  pub all_done : {T : Type 0} (r : Result T AppendFault) (roomy added new : Layout) → with_room bounds layout bytes before ≡ Ok roomy → recorded bounds roomy bytes ≡ Ok added
+      → IfErr r (λ fault. fault ≡ StoreFault) → OnOk r (new ≡ with_due bounds added after) → AnswersTo r new (committed bounds layout bytes before after)
+  all_done (Ok x) roomy added new is recorded_is other done = by_record roomy (Ok added) is recorded_is ∙ ap (λ (l : Layout). Ok l) (sym done)
+  all_done (Err StoreFault) roomy added new is recorded_is other done = tt
+  all_done (Err Memory) roomy added new is recorded_is other done = absurd (cc)
+  all_done (Err (StoreFull need limit)) roomy added new is recorded_is other done = absurd (cc)
+
+not_wanted : (wanted : Bool) (ws : Workspace) → IsMadeUp wanted None ws → wanted ≡ false
+not_wanted true ws made = absurd made
+not_wanted false ws made = refl
+
+is_made : (wanted : Bool) (p : List ℕ) (ws : Workspace) → IsMadeUp wanted (Some p) ws → IsCheckpoint p ws
+is_made true p ws made = made
+is_made false p ws made = absurd made
+
+module _ (bounds : Bounds) (layout roomy added : Layout) (bytes before : ℕ) where
+  by_fit : (fit : Bool) → fits bounds layout bytes ≡ fit → cond fit (is_due bounds (after_record layout bytes)) true ≡ false → cond fit (Ok layout) (checkpointed bounds layout before) ≡ Ok roomy
+      → recorded bounds roomy bytes ≡ Ok added → is_due bounds added ≡ false
+  by_fit true e not_due room recorded_is =
+      let same : layout ≡ roomy = cc in
+      let here : recorded bounds layout bytes ≡ Ok added = ap (λ l. recorded bounds l bytes) same ∙ recorded_is in
+      let it : Ok (after_record layout bytes) ≡ Ok added = subst (λ (b : Bool). cond {A = Result Layout Full} b (Ok (after_record layout bytes)) (Err (record { layout = layout; need = need_of layout bytes })) ≡ Ok added) e here in
+      let is : after_record layout bytes ≡ added = cc in
+      ap (λ l. is_due bounds l) (sym is) ∙ not_due
+  by_fit false e not_due room recorded_is = absurd (cc)
+
+  -- a checkpoint that is due after the record was made up
+  pub takes_due : (after : Option (List ℕ)) (later : Workspace) → IsMadeUp (may_be_due bounds layout bytes) after later → with_room bounds layout bytes before ≡ Ok roomy → recorded bounds roomy bytes ≡ Ok added
+      → TakesDue (is_due bounds added) after later
+  takes_due None later made room recorded_is = by_fit (fits bounds layout bytes) refl (not_wanted (may_be_due bounds layout bytes) later made) room recorded_is
+  takes_due (Some p) later made room recorded_is = is_made (may_be_due bounds layout bytes) p later made

@@ -1,0 +1,33 @@
+use Rattle.std.proofs.Common.{◌≡◌, ◌∙◌, inl, inr, ℕ, ◌+◌, List, ◌∷◌, drop, length, rules, refl, sym, ap, subst, arith}
+use Rattle.std.specs.Prelude.{Err}
+use Rattle.std.proofs.lemmas.List.{drop_more}
+use Rattle.abc_store.specs.Opening.{LeadsTo, LeadsNowhere, Make}
+use Rattle.abc_store.proofs.Images.{from_none}
+use Rattle.abc_store.proofs.opening.replay.Goals as goal
+
+pub loop-payload-init : goal.loop-payload-init
+loop-payload-init c = (c.args.start, omega (arith, c.ranges.start.fits), λ found made. from_none c.args.start c.new-targets.result c.args.payloads.now found c.new-targets.ensures made)
+
+pub returns-then-not-branch-clause-refused : goal.returns-then-not-branch-clause-refused
+returns-then-not-branch-clause-refused c =
+    let i = c.loop-payload.invariant in
+    let payloads = c.args.payloads.now in
+    let at = c.loop-payload.payload-index in
+    let first : drop at payloads ≡ c.payload-item.result ∷ drop (at + 1) payloads = drop_more payloads at c.payload-item.result c.loop-payload-test.true ∙ ap (λ (p : List ℕ). p ∷ drop (at + 1) payloads) (sym c.payload-item.is) in
+    let nowhere : LeadsNowhere c.payload-item.result (record { targets = c.loop-payload.targets }) = subst (λ (p : List ℕ). LeadsNowhere p (record { targets = c.loop-payload.targets })) c.bytes.ensures (c.in_ok-follow.ensures.nowhere c.if-not-branch.true) in
+    (i.0, i.2 (Err i.0) (subst (λ (ps : List (List ℕ)). Make i.0 (record { targets = c.loop-payload.targets }) ps (Err i.0)) (sym first) (inr (nowhere, refl))), i.1)
+
+pub loop-payload-preserved : goal.loop-payload-preserved
+loop-payload-preserved c =
+    let i = c.loop-payload.invariant in
+    let payloads = c.args.payloads.now in
+    let at = c.loop-payload.payload-index in
+    let payload = c.payload-item.result in
+    let first : drop at payloads ≡ payload ∷ drop (at + 1) payloads = drop_more payloads at payload c.loop-payload-test.true ∙ ap (λ (p : List ℕ). p ∷ drop (at + 1) payloads) (sym c.payload-item.is) in
+    let leads : LeadsTo payload (record { targets = c.loop-payload.targets }) (record { targets = c.follow.new.targets }) =
+    subst (λ (p : List ℕ). LeadsTo p (record { targets = c.loop-payload.targets }) (record { targets = c.follow.new.targets })) c.bytes.ensures (c.in_ok-follow.ensures.leads c.if-not-branch.false) in (
+      i.0 + 9 + length payload,
+      search rules,
+      λ found made.
+          i.2 found (subst (λ (ps : List (List ℕ)). Make i.0 (record { targets = c.loop-payload.targets }) ps found) (sym first) (inl (record { targets = c.follow.new.targets }, leads, made))),
+    )

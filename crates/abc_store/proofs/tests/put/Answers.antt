@@ -1,0 +1,13 @@
+use Rattle.std.proofs.Common.{rules, ◌≡◌, refl, sym, subst, arith}
+use Rattle.abc_record.specs.Kept.{IsKeptName}
+use Rattle.abc_store.specs.Workspace.{Workspace, IsWithinLimits, AreNamed}
+use Rattle.abc_store.proofs.Targets.{named_with}
+use Rattle.abc_store.proofs.tests.put.Goals as goal
+
+pub returns-clause-kept : goal.returns-clause-kept
+returns-clause-kept c =
+    let name : IsKeptName c.in_ok-of.field-0 = subst IsKeptName (sym c.in_ok-of.ensures) ((refl, tt), omega arith) in
+    let before : AreNamed c.in_ok-working.working = subst AreNamed (sym c.in_ok-working.ensures) c.targets-there.ensures.named in
+    let named : AreNamed c.set.new.self = subst AreNamed (sym c.in_ok-set.ensures.ok) (named_with c.in_ok-of.field-0 c.whole.result c.in_ok-working.working name before) in
+    let limits : IsWithinLimits (record { targets = c.set.new.self }) = search rules in
+    c.changes.ensures.kept named limits

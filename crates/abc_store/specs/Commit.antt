@@ -1,0 +1,100 @@
+-- What a commit comes to, by the lengths of what it writes.
+use Rattle.std.specs.Prelude.{◌≡◌, ◌⊎◌, ℕ, ◌-◌, ◌^◌, min, List, [], ◌∷◌, length, Result, Ok, Err, if◌then◌else◌, nat_lt}
+use Rattle.abc_num.specs.declared.limits.TheConstants.{MOST_RECORD_BYTES}
+use Rattle.abc_journal.specs.declared.layout.Bounds.{Bounds}
+use Rattle.abc_journal.specs.declared.layout.Layout.{Layout}
+use Rattle.abc_journal.specs.Journal.{HasLayout}
+use Rattle.abc_journal.specs.Commit.{Full, committed}
+use Rattle.abc_record.specs.declared.change.Change.{Change}
+use Rattle.abc_record.specs.Spelling.{spelled}
+use Rattle.abc_store.specs.declared.faults.CommitFault.{CommitFault}
+use Rattle.abc_store.specs.declared.faults.CommitFault.TheVariants.{StoreFault, TooLarge, StoreFull, Memory}
+use Rattle.abc_store.specs.Workspace.{Workspace, checkpoint_of}
+use Rattle.abc_store.specs.Opening.{OpensTo}
+
+-- a workspace, and the layout of the image that holds it
+pub record Work : Type 0 where
+  pub kept : Workspace
+  pub layout : Layout
+
+-- the image holds this work
+pub record Holds (image : List ℕ) (work : Work) : Type 0 where
+  pub layout : HasLayout image work.layout
+  pub opens_to : OpensTo image work.kept
+
+-- why changes are not kept: their spelling has so many bytes, or the store is full
+pub data Refusal : Type 0 where
+  too_large : ℕ → Refusal
+  store_full : Full → Refusal
+
+-- the later workspace is kept where its record was added
+abbrev pub kept_in : Workspace → Result Layout Full → Result Work Refusal
+kept_in later (Ok layout) = Ok (record { kept = later; layout = layout })
+kept_in later (Err full) = Err (store_full full)
+
+-- changes that lead to the later workspace are kept in one record, where they aren't too large; checkpoints are those of the workspace before it
+-- and of the later one
+abbrev pub stored_in : Bounds → Work → ℕ → Workspace → Result Work Refusal
+stored_in bounds work bytes later =
+    if nat_lt MOST_RECORD_BYTES bytes then Err (too_large bytes)
+    else kept_in later (committed bounds work.layout bytes (length (checkpoint_of work.kept)) (length (checkpoint_of later)))
+
+-- what comes of changes that lead to the later workspace: no change writes nothing
+abbrev pub stored : Bounds → Work → List Change → Workspace → Result Work Refusal
+stored bounds work [] later = Ok work
+stored bounds work (change ∷ changes) later = stored_in bounds work (length (spelled (change ∷ changes))) later
+
+-- the work then: where the changes aren't kept the workspace is as before, and what a full store did to its layout stays
+abbrev pub work_after : Work → Result Work Refusal → Work
+work_after work (Ok later) = later
+work_after work (Err (too_large bytes)) = work
+work_after work (Err (store_full full)) = record { kept = work.kept; layout = full.layout }
+
+-- an answer, and the layout then, tell what comes of the changes; numbers past the last one are told as that
+abbrev pub Tells : {T : Type 0} → Result T CommitFault → Bounds → Work → Result Work Refusal → Type 0
+Tells (Ok x) bounds work found = found ≡ Ok work
+Tells (Err StoreFault) bounds work found = Unit {0}
+Tells (Err Memory) bounds work found = Unit {0}
+Tells (Err (TooLarge bytes)) bounds work found = (many : ℕ) × (found ≡ Err (too_large many)) × (bytes ≡ min many (2 ^ 64 - 1))
+Tells (Err (StoreFull need limit)) bounds work found =
+    (full : Full) × (found ≡ Err (store_full full)) × (full.layout ≡ work.layout) × (need ≡ min full.need (2 ^ 64 - 1)) × (limit ≡ bounds.image)
+
+-- every answer but a fault of the store
+abbrev pub IsNoFault : {T : Type 0} → Result T CommitFault → Type 0
+IsNoFault (Ok x) = Unit {0}
+IsNoFault (Err StoreFault) = ⊥
+IsNoFault (Err Memory) = Unit {0}
+IsNoFault (Err (TooLarge bytes)) = Unit {0}
+IsNoFault (Err (StoreFull need limit)) = Unit {0}
+
+-- the changes were kept, or refused by their lengths
+abbrev pub IsDecided : {T : Type 0} → Result T CommitFault → Type 0
+IsDecided (Ok x) = Unit {0}
+IsDecided (Err StoreFault) = ⊥
+IsDecided (Err Memory) = ⊥
+IsDecided (Err (TooLarge bytes)) = Unit {0}
+IsDecided (Err (StoreFull need limit)) = Unit {0}
+
+-- the answer is TooLarge
+abbrev pub IsTooLarge : {T : Type 0} → Result T CommitFault → Type 0
+IsTooLarge (Ok x) = ⊥
+IsTooLarge (Err StoreFault) = ⊥
+IsTooLarge (Err Memory) = ⊥
+IsTooLarge (Err (TooLarge bytes)) = Unit {0}
+IsTooLarge (Err (StoreFull need limit)) = ⊥
+
+-- the answer is StoreFull
+abbrev pub IsStoreFull : {T : Type 0} → Result T CommitFault → Type 0
+IsStoreFull (Ok x) = ⊥
+IsStoreFull (Err StoreFault) = ⊥
+IsStoreFull (Err Memory) = ⊥
+IsStoreFull (Err (TooLarge bytes)) = ⊥
+IsStoreFull (Err (StoreFull need limit)) = Unit {0}
+
+-- these bytes were said, and the image opens to this workspace
+abbrev pub StillOpens : Workspace → List ℕ → List ℕ → List ℕ → Type 0
+StillOpens kept said c s = (s ≡ said) × OpensTo c kept
+
+-- these bytes were said, and the image opens to the first workspace or to the second
+abbrev pub OpensToEither : Workspace → Workspace → List ℕ → List ℕ → List ℕ → Type 0
+OpensToEither kept later said c s = (s ≡ said) × (OpensTo c kept ⊎ OpensTo c later)

@@ -1,0 +1,29 @@
+-- What holds of images and workspaces.
+use Rattle.std.specs.Prelude.{◌≡◌, ℕ, List, Some, Result}
+use Rattle.abc_outside.specs.Stop.{Extends}
+use Rattle.abc_journal.specs.Image.{settled_image}
+use Rattle.abc_frames.specs.Maps.{AreRising, AreRegular}
+use Rattle.abc_store.specs.Workspace.{Workspace, empty, changed_by, changes_between, checkpoint_of, IsWithinLimits, AreNamed}
+use Rattle.abc_store.specs.Opening.{LeadsTo, Opens, OpensTo}
+use Rattle.abc_store.specs.Commit.{Work, Holds}
+
+-- an image opens to one workspace, or is wrong at one place
+abbrev pub OpensToOne : Type 0
+OpensToOne = (image : List ℕ) (found other : Result Workspace ℕ) → Opens image found → Opens image other → found ≡ other
+
+-- what stands past the end of an image that holds a workspace means nothing
+abbrev pub LongerOpensToo : Type 0
+LongerOpensToo = (image c : List ℕ) (work : Work) → Holds image work → Extends image c → OpensTo c work.kept
+
+-- the image that a short one is replaced by opens to the same
+abbrev pub SettledOpensToo : Type 0
+SettledOpensToo = (image : List ℕ) (found : Result Workspace ℕ) → Opens image found → Opens (settled_image image) found
+
+-- a checkpoint of a workspace makes it of the empty one
+abbrev pub CheckpointsHoldAll : Type 0
+CheckpointsHoldAll = (kept : Workspace) → AreRising kept.targets → AreRegular kept.targets → AreNamed kept.targets → IsWithinLimits kept → LeadsTo (checkpoint_of kept) empty kept
+
+-- the changes between two workspaces lead from one to the other
+abbrev pub ChangesLeadThere : Type 0
+ChangesLeadThere = (before after : Workspace) → AreRising before.targets → AreRising after.targets → AreRegular before.targets → AreRegular after.targets
+    → changed_by (changes_between before after) before ≡ Some after

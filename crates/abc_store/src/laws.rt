@@ -1,0 +1,20 @@
+//! Laws of images and workspaces, for the crates above.
+ghost use Rattle.abc_store.specs.Laws.{OpensToOne, LongerOpensToo, SettledOpensToo, CheckpointsHoldAll, ChangesLeadThere};
+
+use abc_record::laws::spellings_are_told_apart;
+
+/// An image opens to one workspace or is wrong at one place, and what stands past its end means nothing. The image that a short one
+/// is replaced by opens to the same.
+pub fn images_open_to_one()
+    ensures one { OpensToOne }
+    ensures longer { LongerOpensToo }
+    ensures settled { SettledOpensToo }
+{
+    spellings_are_told_apart();
+}
+
+/// A checkpoint of a workspace makes it of the empty one, and the changes between two workspaces lead from one to the other.
+pub fn changes_lead_there()
+    ensures checkpoints { CheckpointsHoldAll }
+    ensures between { ChangesLeadThere }
+{}

@@ -1,0 +1,214 @@
+//! The store: a workspace, and the journal that keeps it.
+ghost use Rattle.std.specs.Prelude.{◌≡◌, ◌⊎◌, ◌≤◌, ◌<◌, false, List, ℕ, length, IfOk, OnOk, IsErrOf, IsTrue, Ok, Err, Some};
+ghost use Rattle.abc_outside.specs.Outside.{RoseByOne, KeepsButStore};
+ghost use Rattle.abc_outside.specs.Stop.{Leaves, IsQuiet};
+ghost use Rattle.abc_frames.specs.Maps.{AreRising};
+ghost use Rattle.abc_journal.specs.Image.{settled_image};
+ghost use Rattle.abc_journal.specs.Journal.{BeginsQuiet, IfNotAStore, IsNotAStore};
+ghost use Rattle.abc_record.specs.Kept.{AreKept};
+ghost use Rattle.abc_store.specs.Workspace.{Workspace, changed_by, changes_between, IsWithinLimits, AreNamed};
+ghost use Rattle.abc_store.specs.Opening.{Opens, OpensTo};
+ghost use Rattle.abc_store.specs.Commit.{Holds, stored, work_after, Tells, IsNoFault, IsDecided, IsTooLarge, IsStoreFull, StillOpens, OpensToEither};
+ghost use Rattle.abc_store.specs.View.{work_of};
+
+use crate::CommitFault;
+use crate::opening::replay;
+use crate::plan::{Plan, prepare};
+use crate::steps::write_all;
+use crate::whole::as_changes;
+use abc_frames::Targets;
+use abc_journal::{BeginFault, Bounds, Journal, Layout};
+use abc_num::OutOfMemory;
+use abc_num::limits::MOST_RECORD_BYTES;
+use abc_outside::Host;
+use abc_record::{Change, size_of};
+use std::alloc::Global;
+use std::marker::Model;
+
+/// An open store: the workspace that its image opens to, and where that stands.
+#[derive(Drop)]
+pub struct Store {
+    alloc: Global,
+    journal: Journal,
+    /// The bound on checkpoints, which the journal has too.
+    checkpoint: u64,
+    targets: Targets,
+}
+
+impl Model for Store {
+    ghost use Rattle.std.specs.Prelude.{◌≡◌};
+    ghost use Rattle.std.specs.Coded.{codes};
+    ghost use Rattle.abc_frames.specs.View.{coded_targets};
+    ghost use Rattle.abc_store.specs.View.{View};
+    ghost use Rattle.abc_store.specs.inner.Steps.{IsSpellable};
+
+    ghost Value = { View };
+
+    ghost coded = { Prim.hlevel (codes, coded_targets) };
+
+    ghost view = { λ s. record { kept = record { targets = s.targets }; layout = s.journal.layout; bounds = s.journal.bounds; sound = s.journal.sound } };
+
+    ghost invariant = { λ s. IsSpellable (record { targets = s.targets }) × (s.journal.bounds.checkpoint ≡ s.checkpoint) };
+}
+
+impl Store {
+    /// Opens the store. An image of at most 65 bytes is made fresh; a longer one is only read, each record once.
+    ///
+    /// Errors: `NotAStore` with the place of what is wrong, and `Memory`, which leave the store as it was; `StoreFault` where a
+    /// call of the host failed.
+    pub fn begin<H: Host>(alloc: Global, host: &mut H, b: &Bounds) -> Result<Store, BeginFault>
+        ensures opened { H.tells_image → IfOk result (λ store. OpensTo (H.now host.old).image store.kept) }
+        ensures holds { H.tells_image → IfOk result (λ store. Holds (H.now host.new).image (work_of store)) }
+        ensures image { H.tells_image → OnOk result ((H.now host.new).image ≡ settled_image (H.now host.old).image) }
+        ensures bounds { IfOk result (λ store. store.bounds ≡ b.now) }
+        ensures sound { IfOk result (λ store. IsTrue store.sound) }
+
+        ensures refused { H.tells_image → IfNotAStore result (λ at. Opens (H.now host.old).image (Err at)) }
+        ensures fault { IsErrOf result BeginFault.StoreFault → RoseByOne (H.now host.old).store_faults (H.now host.new).store_faults }
+        ensures faultless { OnOk result ((H.now host.new).store_faults ≡ (H.now host.old).store_faults) }
+        ensures refused_faultless { (IsNotAStore result ⊎ IsErrOf result BeginFault.Memory) → (H.now host.new).store_faults ≡ (H.now host.old).store_faults }
+
+        ensures rest { KeepsButStore (H.now host.old) (H.now host.new) }
+        ensures unchanged { H.tells_image → (at : ℕ) → Opens (H.now host.old).image (Err at) → (H.now host.new).image ≡ (H.now host.old).image }
+        ensures untouched { H.tells_image → (at : ℕ) → Opens (H.now host.old).image (Err at)
+            → Leaves H.clock H.stopped host.old host.new (H.stopped host.old (H.clock host.old)) }
+
+        // At every moment of the call, and at its end.
+        ensures stops { H.tells_image → BeginsQuiet H.clock H.stopped host.old (H.now host.old).image
+            → (kept : Workspace) → OpensTo (H.now host.old).image kept
+            → Leaves H.clock H.stopped host.old host.new (StillOpens kept (H.now host.old).said) }
+        ensures quiet { H.tells_image → BeginsQuiet H.clock H.stopped host.old (H.now host.old).image
+            → OnOk result (IsQuiet H.clock H.stopped host.new (H.now host.new).image) }
+    {
+        let (journal, payloads) = match Journal::begin(alloc, host, b) {
+            Ok(found) => found,
+            Err(fault) => return Err(fault),
+        };
+        match replay(alloc, journal.layout().start, &payloads) {
+            Ok(targets) => Ok(Store {
+                alloc,
+                journal,
+                checkpoint: b.checkpoint,
+                targets,
+            }),
+            Err(fault) => Err(fault),
+        }
+    }
+
+    /// The targets.
+    pub fn targets(&self) -> &Targets
+        ensures targets { result.now ≡ self.now.kept.targets }
+        ensures named { AreNamed self.now.kept.targets }
+        ensures limits { IsWithinLimits self.now.kept }
+    {
+        &self.targets
+    }
+
+    /// Targets equal to those of the store, for an item to change.
+    pub fn working(&self) -> Result<Targets, OutOfMemory>
+        ensures { IfOk result (λ targets. targets ≡ self.now.kept.targets) }
+    {
+        let mut targets = Targets::new(self.alloc);
+        targets.back(self.targets.keep()?);
+        Ok(targets)
+    }
+
+    /// The changes that lead from the targets of the store to these, in order of the names.
+    pub fn changes(&self, working: &Targets) -> Result<Vec<Change>, OutOfMemory>
+        ensures changes { IfOk result (λ changes. changes.items ≡ changes_between self.now.kept (record { targets = working.now })) }
+        ensures lead { IfOk result (λ changes. changed_by changes.items self.now.kept ≡ Some (record { targets = working.now })) }
+        ensures kept { AreNamed working.now → IsWithinLimits (record { targets = working.now }) → IfOk result (λ changes. AreKept changes.items) }
+    {
+        let before = self.targets.keep()?;
+        as_changes(self.alloc, working.changes(&before)?)
+    }
+
+    /// Where the workspace stands in the store.
+    pub fn layout(&self) -> Layout
+        ensures { result ≡ self.now.layout }
+    {
+        self.journal.layout()
+    }
+
+    /// Whether the store may be used: no call of it answered StoreFault.
+    pub fn sound(&self) -> bool
+        ensures { result ≡ self.now.sound }
+    {
+        self.journal.sound()
+    }
+
+    /// Keeps these changes, all of them or none. Once the answer is Ok, each stop leaves an image that opens to the workspace
+    /// with them. All memory is taken before the first write. Where the record doesn't fit, a checkpoint of the workspace is
+    /// tried first; a checkpoint that is due after it is taken where it fits.
+    ///
+    /// Errors: `TooLarge` where the spelling of the changes has more than 2^28 bytes, and `Memory`, which change nothing;
+    /// `StoreFull` where the checkpoint doesn't fit, or the record doesn't fit after it: then the workspace is as before, and
+    /// the checkpoint stays; `StoreFault` where a call of the host failed: then the store isn't sound any more, and its image
+    /// opens to the workspace before the changes or with them.
+    pub fn commit<H: Host>(&mut self, host: &mut H, changes: Vec<Change>) -> Result<(), CommitFault>
+        requires sound { IsTrue self.old.sound }
+        requires holds { H.tells_image → Holds (H.now host.old).image (work_of self.old) }
+        requires kept { AreKept changes.items }
+        requires later { (later : Workspace) × (changed_by changes.items self.old.kept ≡ Some later) × IsWithinLimits later }
+
+        ensures answer { (later : Workspace) → changed_by changes.items self.old.kept ≡ Some later
+            → Tells result self.old.bounds (work_of self.new) (stored self.old.bounds (work_of self.old) changes.items later) }
+        ensures work { (later : Workspace) → changed_by changes.items self.old.kept ≡ Some later → IsDecided result
+            → work_of self.new ≡ work_after (work_of self.old) (stored self.old.bounds (work_of self.old) changes.items later) }
+        ensures holds { H.tells_image → IsNoFault result → Holds (H.now host.new).image (work_of self.new) }
+
+        ensures fault { IsErrOf result CommitFault.StoreFault → RoseByOne (H.now host.old).store_faults (H.now host.new).store_faults }
+        ensures faultless { IsNoFault result → (H.now host.new).store_faults ≡ (H.now host.old).store_faults }
+        ensures same { (IsErrOf result CommitFault.Memory ⊎ IsTooLarge result) → self.new ≡ self.old }
+        ensures same_host { (IsErrOf result CommitFault.Memory ⊎ IsTooLarge result) → host.new ≡ host.old }
+        ensures full { IsStoreFull result → self.new.kept ≡ self.old.kept }
+        ensures rest { KeepsButStore (H.now host.old) (H.now host.new) }
+        ensures bounds { self.new.bounds ≡ self.old.bounds }
+        ensures sound { IsNoFault result → IsTrue self.new.sound }
+        ensures unsound { IsErrOf result CommitFault.StoreFault → self.new.sound ≡ false }
+
+        // At every moment of the call, and at its end.
+        ensures stops { H.tells_image → IsQuiet H.clock H.stopped host.old (H.now host.old).image
+            → (later : Workspace) → changed_by changes.items self.old.kept ≡ Some later
+            → Leaves H.clock H.stopped host.old host.new (OpensToEither self.old.kept later (H.now host.old).said) }
+        ensures refused_stops { H.tells_image → IsQuiet H.clock H.stopped host.old (H.now host.old).image
+            → (IsStoreFull result ⊎ IsTooLarge result ⊎ IsErrOf result CommitFault.Memory)
+            → Leaves H.clock H.stopped host.old host.new (StillOpens self.old.kept (H.now host.old).said) }
+        ensures quiet { H.tells_image → IsQuiet H.clock H.stopped host.old (H.now host.old).image
+            → IsNoFault result → IsQuiet H.clock H.stopped host.new (H.now host.new).image }
+    {
+        if changes.is_empty() {
+            return Ok(());
+        }
+        let bytes = size_of(&changes);
+        if bytes > MOST_RECORD_BYTES {
+            return Err(CommitFault::TooLarge { bytes });
+        }
+        let Plan {
+            payload,
+            before,
+            after,
+            targets,
+        } = prepare(
+            self.alloc,
+            &mut self.journal,
+            &self.targets,
+            self.checkpoint,
+            changes,
+        )?;
+        match write_all(
+            &mut self.journal,
+            host,
+            self.checkpoint,
+            before.as_deref(),
+            &payload,
+            after.as_deref(),
+        ) {
+            Ok(()) => {
+                self.targets = targets;
+                Ok(())
+            }
+            Err(fault) => Err(CommitFault::from(fault)),
+        }
+    }
+}
