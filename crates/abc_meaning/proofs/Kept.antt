@@ -13,11 +13,13 @@ use Rattle.abc_meaning.specs.Reading.{taken}
 use Rattle.abc_meaning.specs.Acts.{say_unless}
 use Rattle.abc_meaning.specs.Meaning.{meaning}
 use Rattle.abc_meaning.specs.Laws.{end_of, EachKeeps, HasNoMoreSteps, StepsNeverRise, HasMoreOutput, OutputGrows, HasFewerLines, LinesAreTaken}
-use Rattle.abc_meaning.proofs.Everywhere.{IsLaw, IsGood, everywhere, placing}
+use Rattle.abc_frames.specs.Maps.{value_of, value_at}
+use Rattle.abc_meaning.proofs.Asked.{placing, Any, IsLaw}
+use Rattle.abc_meaning.proofs.Everywhere.{Ends, at_end, any_ends, some_any, all_addresses, unsaid, IsGood, everywhere}
 
 module _ (R : State → State → Type 0) where
-  pub record Keeps (A : Type 0) (run : Run A) : Type 0 where
-    pub ends : (s : State) → R s (end_of (run s))
+  pub record Keeps (A : Type 0) (Q : A → Type 0) (run : Run A) : Type 0 where
+    pub ends : (s : State) → Ends (R s) Q (run s)
 
   -- what is needed of the relation
   pub record IsKept : Type 0 where
@@ -29,9 +31,13 @@ module _ (R : State → State → Type 0) where
     pub took : (s : State) (line : RawLine) (lines : List RawLine) → s.lines ≡ line ∷ lines → R s (record s { lines = lines })
 
   module _ (kept : IsKept) where
-    after_keeps : {A B : Type 0} (s : State) (g : Got A) (go : A → Run B) → R s (end_of g) → ((a : A) → Keeps B (go a)) → R s (end_of (after g go))
-    after_keeps s (gives a t) go h k = kept.through s t _ h ((k a).ends t)
-    after_keeps s (stops line stop t) go h k = h
+    ends_through : {A : Type 0} (Q : A → Type 0) (s t : State) (g : Got A) → R s t → Ends (R t) Q g → Ends (R s) Q g
+    ends_through Q s t (gives a u) h k = (kept.through s t u h k.0, k.1)
+    ends_through Q s t (stops line stop u) h k = kept.through s t u h k
+
+    after_keeps : {A B : Type 0} (Q : A → Type 0) (Q2 : B → Type 0) (s : State) (g : Got A) (go : A → Run B) → Ends (R s) Q g → ((a : A) → Q a → Keeps B Q2 (go a)) → Ends (R s) Q2 (after g go)
+    after_keeps Q Q2 s (gives a t) go h k = ends_through Q2 s t (go a t) h.0 ((k a h.1).ends t)
+    after_keeps Q Q2 s (stops line stop t) go h k = h
 
     spend_keeps : (n : ℕ) (here : Here) (s : State) → s.left ≡ n → R s (end_of (spend_of n here s))
     spend_keeps zero here s e = kept.same s
@@ -46,37 +52,40 @@ module _ (R : State → State → Type 0) where
     take_keeps here [] false s e = kept.same s
     take_keeps here (line ∷ lines) ended s e = kept.took s line lines e
 
-    is_law : IsLaw Keeps (λ _. Unit {0}) (λ _. Unit {0}) (λ _. Unit {0})
+    is_law : IsLaw (unsaid Keeps Any Any Any) Keeps
     is_law = record {
-      giving = λ a. record { ends = λ s. kept.same s };
-      stopping = λ line stop. record { ends = λ s. kept.same s };
-      going_on = λ run go h k. record { ends = λ s. after_keeps s (run s) go (h.ends s) k };
+      giving = λ a q. record { ends = λ s. (kept.same s, q) };
+      stopping = λ line stop _. record { ends = λ s. kept.same s };
+      going_on = λ {A} {B} {Q} {R = Q2} run go h k. record { ends = λ s. after_keeps Q Q2 s (run s) go (h.ends s) k };
       seeing = λ go h. record { ends = λ s. (h s.targets s.names s.formals tt tt tt).ends s };
-      setting = λ targets names formals _ _ _. record { ends = λ s. kept.placed targets names formals s };
+      setting = λ targets names formals _ _ _. record { ends = λ s. (kept.placed targets names formals s, tt) };
       metering = λ go h. record { ends = λ s. (h s.left).ends s };
-      spending = λ here. record { ends = λ s. spend_keeps s.left here s refl };
-      saying = λ here b. record { ends = λ s. say_keeps here b s (nat_lt MOST_OUTPUT (length s.output + length b)) };
-      taking = λ here. record { ends = λ s. take_keeps here s.lines s.ended s refl };
-      valued = λ name v targets _. tt;
+      spending = λ here _. record { ends = λ s. any_ends (R s) (spend_of s.left here s) (spend_keeps s.left here s refl) };
+      saying = λ here b _. record { ends = λ s. any_ends (R s) _ (say_keeps here b s (nat_lt MOST_OUTPUT (length s.output + length b))) };
+      taking = λ here _. record { ends = λ s. any_ends (R s) _ (take_keeps here s.lines s.ended s refl) };
+      value = λ name targets _. some_any (value_of name targets);
+      valued = λ name v targets _ _. tt;
       emptied = λ name targets _. tt;
       nameless = tt;
-      formalless = tt;
-      formal_more = λ i a formals _. tt;
-      formal_marked = λ i formals f e is _. tt;
-      name_valued = λ i v names _. tt;
+      name_value = λ i names _. some_any (value_at i names);
+      name_valued = λ i v names _ _. tt;
       name_emptied = λ i names _. tt;
+      formalless = tt;
+      formal_addresses = λ formals _. all_addresses Any Any Any Any formals;
+      formal_more = λ i a formals _ _. tt;
+      formal_marked = λ i formals f e is _. tt;
     }
 
     each_keeps : (units : List Routine) (levels : ℕ) → EachKeeps R (meaning units levels)
-    each_keeps units levels = told (everywhere Keeps (λ _. Unit {0}) (λ _. Unit {0}) (λ _. Unit {0}) is_law units levels)
+    each_keeps units levels = told (everywhere Keeps Any Any Any is_law units levels)
       where
-        told : {deep : Deeper} → IsGood Keeps (λ _. Unit {0}) (λ _. Unit {0}) (λ _. Unit {0}) deep → EachKeeps R deep
+        told : {deep : Deeper} → IsGood Keeps Any Any Any deep → EachKeeps R deep
         told good = record {
-          value = λ here e s. (good.value here e).ends s;
-          actual = λ here e s. (good.actual here e).ends s;
-          holds = λ here t s. (good.holds here t).ends s;
-          turn = λ here t s. (good.turn here t).ends s;
-          acts = λ here a s. (good.acts here a).ends s;
+          value = λ here e s. at_end (R s) _ _ ((good.value here e).ends s);
+          actual = λ here e s. at_end (R s) _ _ ((good.actual here e).ends s);
+          holds = λ here t s. at_end (R s) _ _ ((good.holds here t).ends s);
+          turn = λ here t s. at_end (R s) _ _ ((good.turn here t).ends s);
+          acts = λ here a s. at_end (R s) _ _ ((good.acts here a).ends s);
         }
 
 pub steps_never_rise : StepsNeverRise

@@ -13,7 +13,9 @@ use Rattle.abc_meaning.specs.Reading.{taken}
 use Rattle.abc_meaning.specs.Acts.{say_unless}
 use Rattle.abc_meaning.specs.Meaning.{meaning}
 use Rattle.abc_meaning.specs.Laws.{end_of, EachKeeps, HasPlace, StaysInPlace, OnlyPlacesAreMarked}
-use Rattle.abc_meaning.proofs.Everywhere.{IsLaw, IsGood, everywhere}
+use Rattle.abc_frames.specs.Maps.{value_of, value_at}
+use Rattle.abc_meaning.proofs.Asked.{Any, IsLaw}
+use Rattle.abc_meaning.proofs.Everywhere.{Ends, at_end, any_ends, some_any, all_addresses, unsaid, IsGood, everywhere}
 
 abbrev InPlace : List Formal → Type 0
 InPlace formals = AllByRecursion HasPlace formals
@@ -36,55 +38,61 @@ marked_in_place i (g ∷ formals) f e is all = by (g.name == i) (λ e. marked_in
 not_changed : {P : Type 0} → false ≡ true → P
 not_changed e = cc
 
-record Stays (A : Type 0) (run : Run A) : Type 0 where
-  ends : (s : State) → InPlace s.formals → InPlace (end_of (run s)).formals
+abbrev AreInPlace : State → Type 0
+AreInPlace s = InPlace s.formals
 
-after_stays : {A B : Type 0} (g : Got A) (go : A → Run B) → InPlace (end_of g).formals → ((a : A) → Stays B (go a)) → InPlace (end_of (after g go)).formals
-after_stays (gives a t) go h k = (k a).ends t h
-after_stays (stops line stop t) go h k = h
+record Stays (A : Type 0) (Q : A → Type 0) (run : Run A) : Type 0 where
+  ends : (s : State) → AreInPlace s → Ends AreInPlace Q (run s)
 
-spend_stays : (n : ℕ) (here : Here) (s : State) → InPlace s.formals → InPlace (end_of (spend_of n here s)).formals
+after_stays : {A B : Type 0} (Q : A → Type 0) (Q2 : B → Type 0) (g : Got A) (go : A → Run B) → Ends AreInPlace Q g → ((a : A) → Q a → Stays B Q2 (go a)) → Ends AreInPlace Q2 (after g go)
+after_stays Q Q2 (gives a t) go h k = (k a h.1).ends t h.0
+after_stays Q Q2 (stops line stop t) go h k = h
+
+spend_stays : (n : ℕ) (here : Here) (s : State) → AreInPlace s → AreInPlace (end_of (spend_of n here s))
 spend_stays zero here s h = h
 spend_stays (suc n) here s h = h
 
-say_stays : (here : Here) (b : List ℕ) (s : State) (full : Bool) → InPlace s.formals → InPlace (end_of (say_unless full here b s)).formals
+say_stays : (here : Here) (b : List ℕ) (s : State) (full : Bool) → AreInPlace s → AreInPlace (end_of (say_unless full here b s))
 say_stays here b s true h = h
 say_stays here b s false h = h
 
-take_stays : (here : Here) (lines : List RawLine) (ended : Bool) (s : State) → InPlace s.formals → InPlace (end_of (taken here lines ended s)).formals
+take_stays : (here : Here) (lines : List RawLine) (ended : Bool) (s : State) → AreInPlace s → AreInPlace (end_of (taken here lines ended s))
 take_stays here [] true s h = h
 take_stays here [] false s h = h
 take_stays here (line ∷ lines) ended s h = h
 
-is_law : IsLaw Stays (λ _. Unit {0}) (λ _. Unit {0}) InPlace
+is_law : IsLaw (unsaid Stays Any Any InPlace) Stays
 is_law = record {
-  giving = λ a. record { ends = λ s h. h };
-  stopping = λ line stop. record { ends = λ s h. h };
-  going_on = λ run go h k. record { ends = λ s o. after_stays (run s) go (h.ends s o) k };
+  giving = λ a q. record { ends = λ s h. (h, q) };
+  stopping = λ line stop _. record { ends = λ s h. h };
+  going_on = λ {A} {B} {Q} {R = Q2} run go h k. record { ends = λ s o. after_stays Q Q2 (run s) go (h.ends s o) k };
   seeing = λ go h. record { ends = λ s o. (h s.targets s.names s.formals tt tt o).ends s o };
-  setting = λ targets names formals _ _ f. record { ends = λ s o. f };
+  setting = λ targets names formals _ _ f. record { ends = λ s o. (f, tt) };
   metering = λ go h. record { ends = λ s o. (h s.left).ends s o };
-  spending = λ here. record { ends = λ s o. spend_stays s.left here s o };
-  saying = λ here b. record { ends = λ s o. say_stays here b s (nat_lt MOST_OUTPUT (length s.output + length b)) o };
-  taking = λ here. record { ends = λ s o. take_stays here s.lines s.ended s o };
-  valued = λ name v targets _. tt;
+  spending = λ here _. record { ends = λ s o. any_ends AreInPlace _ (spend_stays s.left here s o) };
+  saying = λ here b _. record { ends = λ s o. any_ends AreInPlace _ (say_stays here b s (nat_lt MOST_OUTPUT (length s.output + length b)) o) };
+  taking = λ here _. record { ends = λ s o. any_ends AreInPlace _ (take_stays here s.lines s.ended s o) };
+  value = λ name targets _. some_any (value_of name targets);
+  valued = λ name v targets _ _. tt;
   emptied = λ name targets _. tt;
   nameless = tt;
-  formalless = tt;
-  formal_more = λ i a formals all. ((λ e. not_changed e), all);
-  formal_marked = λ i formals f e is all. marked_in_place i formals f e is all;
-  name_valued = λ i v names _. tt;
+  name_value = λ i names _. some_any (value_at i names);
+  name_valued = λ i v names _ _. tt;
   name_emptied = λ i names _. tt;
+  formalless = tt;
+  formal_addresses = λ formals _. all_addresses Any Any Any InPlace formals;
+  formal_more = λ i a formals _ all. ((λ e. not_changed e), all);
+  formal_marked = λ i formals f e is all. marked_in_place i formals f e is all;
 }
 
 pub only_places_are_marked : OnlyPlacesAreMarked
-only_places_are_marked units levels = told (everywhere Stays (λ _. Unit {0}) (λ _. Unit {0}) InPlace is_law units levels)
+only_places_are_marked units levels = told (everywhere Stays Any Any InPlace is_law units levels)
   where
-    told : {deep : Deeper} → IsGood Stays (λ _. Unit {0}) (λ _. Unit {0}) InPlace deep → EachKeeps StaysInPlace deep
+    told : {deep : Deeper} → IsGood Stays Any Any InPlace deep → EachKeeps StaysInPlace deep
     told good = record {
-      value = λ here e s. (good.value here e).ends s;
-      actual = λ here e s. (good.actual here e).ends s;
-      holds = λ here t s. (good.holds here t).ends s;
-      turn = λ here t s. (good.turn here t).ends s;
-      acts = λ here a s. (good.acts here a).ends s;
+      value = λ here e s h. at_end AreInPlace _ _ ((good.value here e).ends s h);
+      actual = λ here e s h. at_end AreInPlace _ _ ((good.actual here e).ends s h);
+      holds = λ here t s h. at_end AreInPlace _ _ ((good.holds here t).ends s h);
+      turn = λ here t s h. at_end AreInPlace _ _ ((good.turn here t).ends s h);
+      acts = λ here a s h. at_end AreInPlace _ _ ((good.acts here a).ends s h);
     }

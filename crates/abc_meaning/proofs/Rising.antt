@@ -19,7 +19,9 @@ use Rattle.abc_meaning.specs.Deeper.{Deeper}
 use Rattle.abc_meaning.specs.Reading.{taken}
 use Rattle.abc_meaning.specs.Acts.{say_unless}
 use Rattle.abc_meaning.specs.Laws.{end_of, EachKeeps, IsInOrder, StaysInOrder, NamesStayInOrder}
-use Rattle.abc_meaning.proofs.Everywhere.{IsLaw, IsGood, everywhere}
+use Rattle.abc_frames.specs.Maps.{value_of, value_at}
+use Rattle.abc_meaning.proofs.Asked.{Any, IsLaw}
+use Rattle.abc_meaning.proofs.Everywhere.{Ends, at_end, any_ends, some_any, all_addresses, unsaid, IsGood, everywhere}
 
 -- ---- maps in order
 
@@ -74,15 +76,15 @@ none_rising = tt
 
 -- ---- runs
 
-record Stays (A : Type 0) (run : Run A) : Type 0 where
-  ends : (s : State) → IsInOrder s → IsInOrder (end_of (run s))
+record Stays (A : Type 0) (Q : A → Type 0) (run : Run A) : Type 0 where
+  ends : (s : State) → IsInOrder s → Ends IsInOrder Q (run s)
 
 ordered : (s t : State) → t.targets ≡ s.targets → t.names ≡ s.names → IsInOrder s → IsInOrder t
 ordered s t p q h = record { targets = subst AreRising (sym p) h.targets; names = subst IsRising (sym q) h.names }
 
-after_stays : {A B : Type 0} (g : Got A) (go : A → Run B) → IsInOrder (end_of g) → ((a : A) → Stays B (go a)) → IsInOrder (end_of (after g go))
-after_stays (gives a t) go h k = (k a).ends t h
-after_stays (stops line stop t) go h k = h
+after_stays : {A B : Type 0} (Q : A → Type 0) (Q2 : B → Type 0) (g : Got A) (go : A → Run B) → Ends IsInOrder Q g → ((a : A) → Q a → Stays B Q2 (go a)) → Ends IsInOrder Q2 (after g go)
+after_stays Q Q2 (gives a t) go h k = (k a h.1).ends t h.0
+after_stays Q Q2 (stops line stop t) go h k = h
 
 spend_stays : (n : ℕ) (here : Here) (s : State) → IsInOrder s → IsInOrder (end_of (spend_of n here s))
 spend_stays zero here s h = h
@@ -97,35 +99,38 @@ take_stays here [] true s h = h
 take_stays here [] false s h = h
 take_stays here (line ∷ lines) ended s h = ordered s _ refl refl h
 
-is_law : IsLaw Stays AreRising IsRising (λ _. Unit {0})
+is_law : IsLaw (unsaid Stays AreRising IsRising Any) Stays
 is_law = record {
-  giving = λ a. record { ends = λ s h. h };
-  stopping = λ line stop. record { ends = λ s h. h };
-  going_on = λ run go h k. record { ends = λ s o. after_stays (run s) go (h.ends s o) k };
+  giving = λ a q. record { ends = λ s h. (h, q) };
+  stopping = λ line stop _. record { ends = λ s h. h };
+  going_on = λ {A} {B} {Q} {R = Q2} run go h k. record { ends = λ s o. after_stays Q Q2 (run s) go (h.ends s o) k };
   seeing = λ go h. record { ends = λ s o. (h s.targets s.names s.formals o.targets o.names tt).ends s o };
-  setting = λ targets names formals t n _. record { ends = λ s o. record { targets = t; names = n } };
+  setting = λ targets names formals t n _. record { ends = λ s o. (record { targets = t; names = n }, tt) };
   metering = λ go h. record { ends = λ s o. (h s.left).ends s o };
-  spending = λ here. record { ends = λ s o. spend_stays s.left here s o };
-  saying = λ here b. record { ends = λ s o. say_stays here b s (nat_lt MOST_OUTPUT (length s.output + length b)) o };
-  taking = λ here. record { ends = λ s o. take_stays here s.lines s.ended s o };
-  valued = λ name v targets t. more_rising nat_list_cmp_total name v targets t;
+  spending = λ here _. record { ends = λ s o. any_ends IsInOrder _ (spend_stays s.left here s o) };
+  saying = λ here b _. record { ends = λ s o. any_ends IsInOrder _ (say_stays here b s (nat_lt MOST_OUTPUT (length s.output + length b)) o) };
+  taking = λ here _. record { ends = λ s o. any_ends IsInOrder _ (take_stays here s.lines s.ended s o) };
+  value = λ name targets _. some_any (value_of name targets);
+  valued = λ name v targets _ t. more_rising nat_list_cmp_total name v targets t;
   emptied = λ name targets t. fewer_rising nat_list_cmp_total _ targets t;
   nameless = none_rising;
-  formalless = tt;
-  formal_more = λ i a formals _. tt;
-  formal_marked = λ i formals f e is _. tt;
-  name_valued = λ i v names n. more_rising nat_cmp_total i v names n;
+  name_value = λ i names _. some_any (value_at i names);
+  name_valued = λ i v names _ n. more_rising nat_cmp_total i v names n;
   name_emptied = λ i names n. fewer_rising nat_cmp_total _ names n;
+  formalless = tt;
+  formal_addresses = λ formals _. all_addresses Any AreRising IsRising Any formals;
+  formal_more = λ i a formals _ _. tt;
+  formal_marked = λ i formals f e is _. tt;
 }
 
 pub names_stay_in_order : NamesStayInOrder
-names_stay_in_order units levels = told (everywhere Stays AreRising IsRising (λ _. Unit {0}) is_law units levels)
+names_stay_in_order units levels = told (everywhere Stays AreRising IsRising Any is_law units levels)
   where
-    told : {deep : Deeper} → IsGood Stays AreRising IsRising (λ _. Unit {0}) deep → EachKeeps StaysInOrder deep
+    told : {deep : Deeper} → IsGood Stays AreRising IsRising Any deep → EachKeeps StaysInOrder deep
     told good = record {
-      value = λ here e s. (good.value here e).ends s;
-      actual = λ here e s. (good.actual here e).ends s;
-      holds = λ here t s. (good.holds here t).ends s;
-      turn = λ here t s. (good.turn here t).ends s;
-      acts = λ here a s. (good.acts here a).ends s;
+      value = λ here e s h. at_end IsInOrder _ _ ((good.value here e).ends s h);
+      actual = λ here e s h. at_end IsInOrder _ _ ((good.actual here e).ends s h);
+      holds = λ here t s h. at_end IsInOrder _ _ ((good.holds here t).ends s h);
+      turn = λ here t s h. at_end IsInOrder _ _ ((good.turn here t).ends s h);
+      acts = λ here a s h. at_end IsInOrder _ _ ((good.acts here a).ends s h);
     }

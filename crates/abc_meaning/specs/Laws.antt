@@ -1,7 +1,8 @@
 -- What holds of each part of a run, whatever it runs.
-use Rattle.std.specs.Prelude.{◌≡◌, ◌≤◌, ℕ, Bool, true, false, List, ◌++◌, is_some}
+use Rattle.std.specs.Prelude.{◌≡◌, ◌≤◌, ℕ, Bool, true, false, List, [], ◌∷◌, ◌++◌, is_some}
 use Rattle.std.specs.List.{AllByRecursion}
 use Rattle.abc_num.specs.declared.lines.RawLine.{RawLine}
+use Rattle.abc_tree.specs.RegularItems.{parts_of, lines_of, is_among}
 use Rattle.abc_tree.specs.declared.formulas.Expr.{Expr}
 use Rattle.abc_tree.specs.declared.formulas.Test.{Test}
 use Rattle.abc_tree.specs.declared.commands.Action.{Action}
@@ -9,7 +10,7 @@ use Rattle.abc_tree.specs.declared.commands.Command.{Command}
 use Rattle.abc_tree.specs.declared.commands.Unit.{Unit as Routine}
 use Rattle.abc_frames.specs.Maps.{Targets, AreRising, IsRising}
 use Rattle.abc_meaning.specs.State.{Formal, State, Stop, wants, Got, gives, stops, Run}
-use Rattle.abc_meaning.specs.Here.{Here}
+use Rattle.abc_meaning.specs.Here.{Here, Scope, in_command, in_unit}
 use Rattle.abc_meaning.specs.Deeper.{Deeper}
 use Rattle.abc_meaning.specs.Meaning.{meaning}
 use Rattle.abc_meaning.specs.Ran.{Outcome, stopped, ran}
@@ -115,3 +116,39 @@ CommandIsSameWithMore =
     → wants_more (ran units deepest c targets lines false budget).outcome ≡ false
     → ran units deepest c targets (lines ++ more) ended budget
     ≡ record (ran units deepest c targets lines false budget) { lines = (ran units deepest c targets lines false budget).lines ++ more }
+
+-- the lines of a command: its own, and those of the commands and alternatives in it
+abbrev pub lines_in : Action → List ℕ
+lines_in a = lines_of (parts_of a)
+
+-- The lines that a command may tell where it stops: that of its place, and in an immediate command its own. In a unit it is the line
+-- of the call.
+abbrev pub told_by : Scope → ℕ → Action → List ℕ
+told_by (in_command c) line a = line ∷ lines_in a
+told_by (in_unit u) line a = line ∷ []
+
+-- where a part of a run stops, it tells this line
+abbrev pub StopsAt : {A : Type 0} → ℕ → Got A → Type 0
+StopsAt n (gives a s) = Unit {0}
+StopsAt n (stops line stop s) = line ≡ n
+
+-- or one of these lines
+abbrev pub StopsAmong : {A : Type 0} → List ℕ → Got A → Type 0
+StopsAmong lines (gives a s) = Unit {0}
+StopsAmong lines (stops line stop s) = is_among lines line ≡ true
+
+pub record EachTellsItsLine (deep : Deeper) : Type 0 where
+  pub value : (here : Here) (e : Expr) (s : State) → StopsAt here.line (deep.value here e s)
+  pub actual : (here : Here) (e : Expr) (s : State) → StopsAt here.line (deep.actual here e s)
+  pub holds : (here : Here) (t : Test) (s : State) → StopsAt here.line (deep.holds here t s)
+  pub turn : (here : Here) (t : Test) (s : State) → StopsAt here.line (deep.turn here t s)
+  pub acts : (here : Here) (a : Action) (s : State) → StopsAmong (told_by here.scope here.line a) (deep.acts here a s)
+
+abbrev pub StopsTellTheirLine : Type 0
+StopsTellTheirLine = (units : List Routine) (levels : ℕ) → EachTellsItsLine (meaning units levels)
+
+-- an immediate command that stops tells one of its own lines
+abbrev pub CommandTellsItsLine : Type 0
+CommandTellsItsLine =
+    (units : List Routine) (deepest : ℕ) (c : Command) (targets : Targets) (lines : List RawLine) (ended : Bool) (budget : ℕ) (line : ℕ) (stop : Stop)
+    → (ran units deepest c targets lines ended budget).outcome ≡ stopped line stop → is_among (lines_in c.action) line ≡ true

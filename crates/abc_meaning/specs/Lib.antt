@@ -15,4 +15,6 @@ pub mod PutBack
 pub mod Acts
 pub mod Meaning
 pub mod Ran
+pub mod Written
+pub mod Regular
 pub mod Laws

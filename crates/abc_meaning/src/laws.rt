@@ -1,5 +1,8 @@
 //! What holds of each part of a run, whatever it runs. All nodes at all depths are spoken of: values, actuals, tests and commands.
-ghost use Rattle.abc_meaning.specs.Laws.{StepsNeverRise, OutputGrows, LinesAreTaken, MoreLinesChangeNothing, CommandIsSameWithMore, NamesStayInOrder, OnlyPlacesAreMarked};
+ghost use Rattle.abc_meaning.specs.Regular.{ValuesStayRegular, TargetsStayRegular, InputLinesAreShort};
+ghost use Rattle.abc_meaning.specs.Laws.{StepsNeverRise, OutputGrows, LinesAreTaken, MoreLinesChangeNothing, CommandIsSameWithMore, NamesStayInOrder, OnlyPlacesAreMarked, StopsTellTheirLine, CommandTellsItsLine};
+
+use abc_print::displays_read_back;
 
 /// The steps left never rise.
 pub fn steps_never_rise()
@@ -32,3 +35,21 @@ pub fn names_stay_in_order()
 pub fn only_places_are_marked()
     ensures { OnlyPlacesAreMarked }
 {}
+
+/// Where a part of a run stops, it tells the line of its place, or of a command or an alternative within an immediate command; in a
+/// unit's body the line of the call. So an immediate command that stops tells one of its own lines.
+pub fn stops_tell_their_line()
+    ensures nodes { StopsTellTheirLine }
+    ensures command { CommandTellsItsLine }
+{}
+
+/// Where the values of the state, the literals of the tree and those of the units are values that a program can have, so are what is
+/// given and all values of the state afterwards: of targets and names, and the keys of addresses. So the targets after an immediate
+/// command can be stored.
+pub fn values_stay_regular()
+    ensures nodes { ValuesStayRegular }
+    ensures command { TargetsStayRegular }
+    ensures lines { InputLinesAreShort }
+{
+    displays_read_back();
+}

@@ -5,7 +5,7 @@ mod laws;
 
 pub use laws::{
     lines_are_taken, more_lines_change_nothing, names_stay_in_order, only_places_are_marked,
-    output_grows, steps_never_rise,
+    output_grows, steps_never_rise, stops_tell_their_line, values_stay_regular,
 };
 
 #[cfg(test)]

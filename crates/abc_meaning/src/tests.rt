@@ -1,7 +1,7 @@
 //! That the laws are there to be called.
 use crate::laws::{
     lines_are_taken, more_lines_change_nothing, names_stay_in_order, only_places_are_marked,
-    output_grows, steps_never_rise,
+    output_grows, steps_never_rise, stops_tell_their_line, values_stay_regular,
 };
 use std::test::Fail;
 
@@ -13,6 +13,8 @@ fn laws_are_called(rt: HostRuntime) -> Result<(), Fail> {
     more_lines_change_nothing();
     names_stay_in_order();
     only_places_are_marked();
+    stops_tell_their_line();
+    values_stay_regular();
     assert!(rt; true);
     Ok(())
 }
