@@ -1,21 +1,28 @@
 -- A token that free operand in front takes: what holds where each frame has passed it on.
-use Rattle.std.proofs.Common.{◌≡◌, ℕ, ◌≤◌, ◌<◌, inl, inr, ◌&&◌, Bool, true, false, List, [], ◌∷◌, ◌++◌, Option, Some, None, refl, ap, arith, subst}
-use Rattle.std.specs.Prelude.{nat_le, if◌then◌else◌}
+use Rattle.std.proofs.Common.{◌≡◌, ℕ, ◌≤◌, ◌<◌, inl, inr, ◌&&◌, Bool, true, false, List, [], ◌∷◌, Option, Some, None, refl, ap, arith, subst}
+use Rattle.std.specs.Prelude.{◌≢◌, nat_le, if◌then◌else◌}
 use Rattle.std.proofs.lemmas.Bool.{leb-true, leb-false, lt-leb}
 use Rattle.abc_tree.specs.declared.formulas.Expr.{Expr}
-use Rattle.abc_expressions.specs.declared.frames.Group.TheVariants as grp
 use Rattle.abc_expressions.specs.declared.frames.Infix.{Infix}
 use Rattle.abc_expressions.specs.declared.frames.Reach.{Reach}
 use Rattle.abc_expressions.specs.declared.frames.Reach.TheVariants as r
-use Rattle.abc_expressions.specs.declared.frames.Settled.TheVariants as done
 use Rattle.abc_expressions.specs.declared.lexemes.Lexeme.{Lexeme}
 use Rattle.abc_expressions.specs.declared.lexemes.Lexeme.TheVariants as t
 use Rattle.abc_expressions.specs.declared.signs.Sign.TheVariants as s
-use Rattle.abc_expressions.specs.Fronts.{EndsBefore, NoComma}
-use Rattle.abc_expressions.specs.Grammar.{compound}
-use Rattle.abc_expressions.specs.inner.Machine.{reach_by, reach, within, sign_of, settled}
+use Rattle.abc_expressions.specs.Fronts.{EndsBefore}
+use Rattle.abc_expressions.specs.Grammar.{Spelled}
+use Rattle.abc_expressions.specs.inner.Machine.{reach_by, reach, within}
 use Rattle.abc_expressions.specs.Operators.{infix_of}
 use Rattle.abc_expressions.proofs.Levels.{HasShape, ShapedReach, shaped_reach, reach_joins, grasp, Follows}
+
+-- no comma goes on with several expressions
+abbrev pub NoComma : List Lexeme → Type 0
+NoComma [] = Unit {0}
+NoComma (token ∷ ts) = token ≢ t.Sign s.Comma
+
+-- the tokens ts up to rest spell an expression, or several with commas between, which end there
+abbrev pub IsWholeFront : List (List ℕ) → ℕ → List Lexeme → Expr → List Lexeme → Type 0
+IsWholeFront own d ts a rest = Spelled own d a ts rest × EndsBefore own 1 rest × NoComma rest
 
 -- the operand of level m has what the token asks, where its place, of least level k, takes the token
 abbrev pub Full : Reach → ℕ → ℕ → Type 0
@@ -106,23 +113,3 @@ within_none r.Ends k m low = refl
 
 pub stays_out : (own : List (List ℕ)) (token : Lexeme) (ts : List Lexeme) (k m : ℕ) → EndsBefore own k (token ∷ ts) → within (reach own token) k m ≡ r.Ends
 stays_out own token ts k m end = within_none (reach own token) k m (is_passed own token ts k end)
-
--- at the loosest level nothing goes on
-none_joins : (x : Reach) → ShapedReach x → Passed x 1 → x ≡ r.Ends
-none_joins (r.Joins i) (inl p) low = absurd (omega arith)
-none_joins (r.Joins i) (inr p) low = absurd (omega arith)
-none_joins r.Selects p low = absurd low
-none_joins r.Ends p low = refl
-
-pub reach_ends : (own : List (List ℕ)) (token : Lexeme) (ts : List Lexeme) → EndsBefore own 1 (token ∷ ts) → reach own token ≡ r.Ends
-reach_ends own token ts end = none_joins (reach own token) (shaped_reach own token) (is_passed own token ts 1 end)
-
-pub whole_stops : (token : Lexeme) (ts : List Lexeme) → NoComma (token ∷ ts) → (parts : List Expr) (a : Expr)
-    → settled (grp.Whole parts) (sign_of token) a ≡ done.Stops (compound (parts ++ a ∷ []))
-whole_stops (t.Sign s.Comma) ts free parts a = absurd (free refl)
-whole_stops (t.Sign _) ts free parts a = refl
-whole_stops (t.Number bytes) ts free parts a = refl
-whole_stops (t.Name x) ts free parts a = refl
-whole_stops (t.Keyword x) ts free parts a = refl
-whole_stops (t.Text bytes) ts free parts a = refl
-whole_stops t.Other ts free parts a = refl

@@ -6,18 +6,21 @@ use Rattle.abc_tree.specs.declared.formulas.Expr.{Expr}
 use Rattle.abc_expressions.specs.declared.fault.FormulaFault.{FormulaFault}
 use Rattle.abc_expressions.specs.declared.fault.FormulaFault.TheVariants as fault
 use Rattle.abc_expressions.specs.declared.frames.Frame.TheVariants as f
-use Rattle.abc_expressions.specs.declared.frames.Group.{Group}
 use Rattle.abc_expressions.specs.declared.frames.Group.TheVariants as grp
+use Rattle.abc_expressions.specs.declared.frames.Reach.{Reach}
+use Rattle.abc_expressions.specs.declared.frames.Reach.TheVariants as r
 use Rattle.abc_expressions.specs.declared.frames.Turn.TheVariants as turn
 use Rattle.abc_expressions.specs.declared.lexemes.Lexeme.{Lexeme}
 use Rattle.abc_expressions.specs.declared.tree.ExpressionFront.{ExpressionFront}
-use Rattle.abc_expressions.specs.Fronts.{EndsBefore, NoComma, IsFront, IsWholeFront, FindsOnly}
-use Rattle.abc_expressions.specs.inner.Machine.{Found, Leaves, reader, taken, run, popped, finished, tree_at}
+use Rattle.abc_expressions.specs.Fronts.{EndsBefore, IsFront, FindsOnly}
+use Rattle.abc_expressions.specs.Grammar.{Spells}
+use Rattle.abc_expressions.specs.inner.Machine.{Found, Leaves, reader, reach, within, taken, run, popped, finished, tree_at, expression_of}
 use Rattle.abc_expressions.specs.inner.Steps.{Finds}
 use Rattle.abc_tokens.proofs.Faults.{OneReading}
-use Rattle.abc_expressions.proofs.Complete.{Stops, complete, read_as}
-use Rattle.abc_expressions.proofs.Ending.{follows, stays_out, reach_ends, whole_stops}
-use Rattle.abc_expressions.proofs.Sound.{reads_front, reads_whole}
+use Rattle.abc_expressions.proofs.Complete.{complete}
+use Rattle.abc_expressions.proofs.Levels.{grasp, Follows}
+use Rattle.abc_expressions.proofs.Ending.{follows, stays_out}
+use Rattle.abc_expressions.proofs.Sound.{reads_front}
 
 stops_single : (leaves : Leaves) (own : List (List ℕ)) (d n : ℕ) (a : Expr) (rest : List Lexeme) → EndsBefore own n rest
     → run leaves own rest d (f.Inside n grp.Single ∷ []) (turn.Has n n a) ≡ Some (a, rest)
@@ -30,14 +33,6 @@ pub front_found : OneReading → (own : List (List ℕ)) (d n : ℕ) (ts : List 
     → tree_at n grp.Single (reader own d) own d ts ≡ Some (a, rest)
 front_found law own d n ts a rest h =
     complete law h.0 d n (f.Inside n grp.Single ∷ []) (omega arith) (omega arith) (follows own n rest h.1) ∙ stops_single (reader own d) own d n a rest h.1
-
-whole_stops_before : (own : List (List ℕ)) (rest : List Lexeme) → EndsBefore own 1 rest → NoComma rest → Stops own rest
-whole_stops_before own [] end free = tt
-whole_stops_before own (token ∷ ts) end free = (reach_ends own token ts end, whole_stops token ts free)
-
-whole_front_found : OneReading → (own : List (List ℕ)) (d : ℕ) (ts : List Lexeme) (a : Expr) (rest : List Lexeme) → IsWholeFront own d ts a rest
-    → tree_at 1 (grp.Whole []) (reader own d) own d ts ≡ Some (a, rest)
-whole_front_found law own d ts a rest h = read_as law own d a ts rest h.0 (whole_stops_before own rest h.1 h.2) d (omega arith)
 
 -- what finds exactly that of which this is true answers with the only one
 only : (is : Expr → List Lexeme → Type 0) (found : Found) → ((a : Expr) (rest : List Lexeme) → is a rest → found ≡ Some (a, rest))
@@ -55,15 +50,26 @@ module _ (law : OneReading) (own : List (List ℕ)) (d : ℕ) (ts : List Lexeme)
   one_front n low h =
       only (IsFront own d n ts) (tree_at n grp.Single (reader own d) own d ts) (front_found law own d n ts) (λ a rest e. reads_front law own d d n low ts rest a e) x h
 
-  whole_front : Finds x (tree_at 1 (grp.Whole []) (reader own d) own d ts) → FindsOnly (IsWholeFront own d ts) x
-  whole_front h =
-      only (IsWholeFront own d ts) (tree_at 1 (grp.Whole []) (reader own d) own d ts) (whole_front_found law own d ts) (λ a rest e. reads_whole law own d d ts rest a e) x h
+  pub single_told : (n : ℕ) → ((c : ℕ) → d ≤ c → Finds x (expression_of (reader own c) own n d ts)) → n ≤ 10 → FindsOnly (IsFront own d n ts) x
+  single_told n h low = one_front n low (h d (omega arith))
 
-  module _ (n : ℕ) (whole : Group) (h : (c : ℕ) → d ≤ c → Finds x (tree_at n whole (reader own c) own d ts)) where
-    pub single_told : whole ≡ grp.Single → n ≤ 10 → FindsOnly (IsFront own d n ts) x
-    single_told e low = one_front n low (subst (λ g. Finds x (tree_at n g (reader own d) own d ts)) e (h d (omega arith)))
+-- ---- before tokens that end every expression
 
-    pub several_told : whole ≡ grp.Whole [] → n ≡ 1 → FindsOnly (IsWholeFront own d ts) x
-    several_told e one =
-        whole_front (subst (λ k. Finds x (tree_at k (grp.Whole []) (reader own d) own d ts)) one
-        (subst (λ g. Finds x (tree_at n g (reader own d) own d ts)) e (h d (omega arith))))
+abbrev pub Ends : List (List ℕ) → List Lexeme → Type 0
+Ends own [] = Unit {0}
+Ends own (token ∷ ts) = reach own token ≡ r.Ends
+
+follows_end : (own : List (List ℕ)) (n : ℕ) (ts : List Lexeme) → Ends own ts → Follows own n ts
+follows_end own n [] e = tt
+follows_end own n (token ∷ ts) e = let P : Reach → Type 0 = λ x. grasp x ≤ n in subst P (sym e) (omega arith)
+
+stops_here : (leaves : Leaves) (own : List (List ℕ)) (d n : ℕ) (a : Expr) (rest : List Lexeme) → Ends own rest
+    → run leaves own rest d (f.Inside n grp.Single ∷ []) (turn.Has n n a) ≡ Some (a, rest)
+unfolding run popped finished
+stops_here leaves own d n a [] e = refl
+stops_here leaves own d n a (token ∷ ts) e = ap (λ x. taken (within x n n) (run leaves own ts) d (f.Inside n grp.Single ∷ []) n a (Some (a, token ∷ ts))) e
+
+pub expression_found : (law : OneReading) {own : List (List ℕ)} {d n : ℕ} {a : Expr} {ts rest : List Lexeme} → Spells own d n a ts rest → (c : ℕ) → d ≤ c → Ends own rest
+    → expression_of (reader own c) own n d ts ≡ Some (a, rest)
+expression_found law {own = own} {d = d} {n = n} {a = a} {rest = rest} p c deep e =
+    complete law p c n (f.Inside n grp.Single ∷ []) deep (omega arith) (follows_end own n rest e) ∙ stops_here (reader own c) own d n a rest e

@@ -38,12 +38,12 @@ use Rattle.abc_expressions.specs.Lexemes.{seen}
 use Rattle.abc_expressions.specs.declared.lexemes.Lexeme.TheVariants as t
 use Rattle.abc_expressions.specs.Operators.{kind_of, begins, lead_by, lead, infix_of, joined1, joined2}
 use Rattle.abc_expressions.specs.Grammar.{compound, paired, Spells, number, text, name, call, before, between, select, round, empty, list, table, Parts, one, more, single, range, Fills, one_fill, more_fills, Entry, entry, Pairs, one_pair, more_pairs, Pieces, none, characters, conversion, Spelled}
-use Rattle.abc_expressions.specs.Fronts.{EndsBefore, NoComma, IsFront, IsWholeFront}
+use Rattle.abc_expressions.specs.Fronts.{EndsBefore, IsFront}
 use Rattle.abc_expressions.specs.inner.Numbers.{number_at}
-use Rattle.abc_expressions.specs.inner.Machine.{Found, Leaves, Converts, converter, reader, leaf, role_of, leaf_operand, operand, opened, displayed, wanted, reach_by, reach, within, taken, sign_of, settled, settles, popped, in_display, at_pair, at_colon, finished, run, tree_of, alone, lexed, split, Splitting, pieces_of, conversion_at, front_piece, converted_piece, text_of, text_by, number_of, read_tokens}
+use Rattle.abc_expressions.specs.inner.Machine.{Found, Leaves, Converts, converter, reader, leaf, role_of, leaf_operand, operand, opened, displayed, wanted, reach_by, reach, within, taken, sign_of, settled, settles, popped, in_display, at_pair, at_colon, finished, run, tree_of, alone, lexed, split, Splitting, pieces_of, conversion_at, front_piece, converted_piece, text_of, text_by, number_of, read_tokens, expression_of}
 use Rattle.abc_tokens.proofs.Faults.{OneReading}
 use Rattle.abc_expressions.proofs.Levels.{HasShape, shaped_reach}
-use Rattle.abc_expressions.proofs.Ending.{Full, passed, full_at_first, full_between, full_before, ends_before}
+use Rattle.abc_expressions.proofs.Ending.{NoComma, IsWholeFront, Full, passed, full_at_first, full_between, full_before, ends_before}
 use Rattle.abc_expressions.proofs.Complete.{shape_of}
 use Rattle.abc_expressions.proofs.NumberValues.{value_told as number_told}
 use Rattle.abc_expressions.proofs.Leaves.{lexed_told}
@@ -657,5 +657,5 @@ pub reads_front : OneReading → (own : List (List ℕ)) (c d n : ℕ) → n ≤
 reads_front law own c d n low ts rest a h = single_sound law own d n low ts rest a (converter own c) (converter_told law own c) h
 
 pub reads_single : OneReading → (own : List (List ℕ)) (c d n : ℕ) → n ≤ 10 → (ts rest : List Lexeme) (a : Expr)
-    → run (reader own c) own ts d (f.Inside n grp.Single ∷ []) (turn.Wants n) ≡ Some (a, rest) → Spells own d n a ts rest
+    → expression_of (reader own c) own n d ts ≡ Some (a, rest) → Spells own d n a ts rest
 reads_single law own c d n low ts rest a h = (reads_front law own c d n low ts rest a h).0

@@ -9,24 +9,16 @@ use Rattle.abc_expressions.specs.declared.lexemes.Lexeme.TheVariants as t
 use Rattle.abc_expressions.specs.declared.signs.Sign.TheVariants as s
 use Rattle.abc_expressions.specs.declared.tree.ExpressionFront.{ExpressionFront}
 use Rattle.abc_expressions.specs.Operators.{infix_of}
-use Rattle.abc_expressions.specs.Grammar.{Spells, Spelled}
+use Rattle.abc_expressions.specs.Grammar.{Spells}
 
 -- a tree of level n ends before these tokens: no [ follows, and no operator that gives level n or a tighter one
 abbrev pub EndsBefore : List (List ℕ) → ℕ → List Lexeme → Type 0
 EndsBefore own n [] = Unit {0}
 EndsBefore own n (token ∷ ts) = (token ≢ t.Sign s.Bracket) × ((i : Infix) → infix_of own token ≡ Some i → i.gives < n)
 
-abbrev pub NoComma : List Lexeme → Type 0
-NoComma [] = Unit {0}
-NoComma (token ∷ ts) = token ≢ t.Sign s.Comma
-
 -- the tokens ts up to rest spell an expression of level n, which ends there
 abbrev pub IsFront : List (List ℕ) → ℕ → ℕ → List Lexeme → Expr → List Lexeme → Type 0
 IsFront own d n ts a rest = Spells own d n a ts rest × EndsBefore own n rest
-
--- the tokens ts up to rest spell an expression, or several with commas between, which end there
-abbrev pub IsWholeFront : List (List ℕ) → ℕ → List Lexeme → Expr → List Lexeme → Type 0
-IsWholeFront own d ts a rest = Spelled own d a ts rest × EndsBefore own 1 rest × NoComma rest
 
 -- the answer is the one tree and rest of which this is true, or BadCommand where it's true of none
 abbrev pub FindsOnly : (Expr → List Lexeme → Type 0) → Result ExpressionFront FormulaFault → Type 0

@@ -20,8 +20,8 @@ mod used;
 pub use addresses::{address, address_names, whole_address};
 pub use expressions::{expression, single_expression, whole_expression};
 pub use fault::FormulaFault;
-pub use frames::{Frame, Group, Infix, Join, Kind, Reach, Turn};
-pub use front::tree_in_front;
+pub use frames::{Infix, Join, Kind, Reach};
+pub use front::expression_in_front;
 pub use height::{a_part_reaches, is_higher, reaches};
 pub use laws::{
     address_form, address_numbers, computed_address, computed_expression, computed_single,

@@ -178,7 +178,7 @@ fn advance(
     }
 }
 
-/// What `tree_in_front` gives, by the machine.
+/// An expression in front of the tokens, or, by the group, several with commas between, as the machine reads them.
 #[cycle(reading)]
 pub(crate) fn read_tree<'a>(
     alloc: Global,

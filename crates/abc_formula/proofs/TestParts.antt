@@ -1,5 +1,5 @@
 -- What tests are told of expressions: where one begins, where it ends, and that it has a token.
-use Rattle.std.proofs.Common.{◌≡◌, ℕ, ◌≤◌, ◌<◌, true, List, [], ◌∷◌, Some, refl, ap, arith, sym, ◌∙◌, subst, length}
+use Rattle.std.proofs.Common.{◌≡◌, ℕ, ◌<◌, true, List, [], ◌∷◌, Some, refl, arith, length}
 use Rattle.std.proofs.lemmas.List.Elements.{All-tail}
 use Rattle.std.specs.Prelude.{All}
 use Rattle.abc_num.specs.Text.{text_eq}
@@ -8,12 +8,8 @@ use Rattle.abc_tree.specs.declared.formulas.Expr.{Expr}
 use Rattle.abc_tree.specs.declared.formulas.Fill.{Fill}
 use Rattle.abc_tree.specs.declared.formulas.Pair.{Pair}
 use Rattle.abc_tree.specs.declared.operations.Op.{Op}
-use Rattle.abc_expressions.specs.declared.frames.Frame.TheVariants as f
-use Rattle.abc_expressions.specs.declared.frames.Group.TheVariants as g
 use Rattle.abc_expressions.specs.declared.frames.Join.{Join}
-use Rattle.abc_expressions.specs.declared.frames.Reach.{Reach}
 use Rattle.abc_expressions.specs.declared.frames.Reach.TheVariants as r
-use Rattle.abc_expressions.specs.declared.frames.Turn.TheVariants as turn
 use Rattle.abc_expressions.specs.declared.signs.Sign.{Sign}
 use Rattle.abc_expressions.specs.declared.signs.Sign.TheVariants as s
 use Rattle.abc_expressions.specs.declared.lexemes.Lexeme.{Lexeme}
@@ -22,12 +18,9 @@ use Rattle.abc_formula.specs.declared.test_frames.Front.TheVariants as front
 use Rattle.abc_expressions.specs.Lexemes.{IsSpelled}
 use Rattle.abc_expressions.specs.Operators.{lead}
 use Rattle.abc_expressions.specs.Grammar.{Spells, number, text, name, call, before, between, select, round, empty, list, table, Parts, one, more, Filler, single, range, Fills, one_fill, more_fills, Entry, entry, Pairs, one_pair, more_pairs}
-use Rattle.abc_expressions.specs.inner.Machine.{Leaves, reader, reach, within, taken, popped, finished, run}
-use Rattle.abc_tokens.proofs.Faults.{OneReading}
+use Rattle.abc_expressions.specs.inner.Machine.{reach}
 use Rattle.abc_formula.specs.TestGrammar.{is_keyword, relation_of, relation_by}
-use Rattle.abc_formula.specs.inner.TestMachine.{expression_of, front_of}
-use Rattle.abc_expressions.proofs.Levels.{grasp, Follows}
-use Rattle.abc_expressions.proofs.Complete.{complete}
+use Rattle.abc_formula.specs.inner.TestMachine.{front_of}
 
 -- ---- a token at least
 
@@ -88,25 +81,6 @@ front_expression (list h p) = refl
 front_expression (table h p) = refl
 
 -- ---- tokens that end an expression
-
-abbrev pub Ends : List (List ℕ) → List Lexeme → Type 0
-Ends own [] = Unit {0}
-Ends own (token ∷ ts) = reach own token ≡ r.Ends
-
-follows_end : (own : List (List ℕ)) (n : ℕ) (ts : List Lexeme) → Ends own ts → Follows own n ts
-follows_end own n [] e = tt
-follows_end own n (token ∷ ts) e = let P : Reach → Type 0 = λ x. grasp x ≤ n in subst P (sym e) (omega arith)
-
-stops_here : (leaves : Leaves) (own : List (List ℕ)) (d n : ℕ) (a : Expr) (rest : List Lexeme) → Ends own rest
-    → run leaves own rest d (f.Inside n g.Single ∷ []) (turn.Has n n a) ≡ Some (a, rest)
-unfolding run popped finished
-stops_here leaves own d n a [] e = refl
-stops_here leaves own d n a (token ∷ ts) e = ap (λ x. taken (within x n n) (run leaves own ts) d (f.Inside n g.Single ∷ []) n a (Some (a, token ∷ ts))) e
-
-pub expression_found : (law : OneReading) {own : List (List ℕ)} {d n : ℕ} {a : Expr} {ts rest : List Lexeme} → Spells own d n a ts rest → (c : ℕ) → d ≤ c → Ends own rest
-    → expression_of (reader own c) own n d ts ≡ Some (a, rest)
-expression_found law {own = own} {d = d} {n = n} {a = a} {rest = rest} p c deep e =
-    complete law p c n (f.Inside n g.Single ∷ []) deep (omega arith) (follows_end own n rest e) ∙ stops_here (reader own c) own d n a rest e
 
 pub keyword_is : (word x : List ℕ) → text_eq x word ≡ true → x ≡ word
 keyword_is word x h = (text_eq-Decides x word).0 h

@@ -12,7 +12,7 @@ use Rattle.abc_tree.specs.declared.formulas.Expr.{Expr}
 use Rattle.abc_tree.specs.declared.formulas.Link.{Link}
 use Rattle.abc_tree.specs.declared.operations.Op.{Op}
 use Rattle.std.proofs.lemmas.List.{append_assoc, append-nil, take_all}
-use Rattle.abc_expressions.specs.inner.Machine.{Leaves, reader}
+use Rattle.abc_expressions.specs.inner.Machine.{Leaves, reader, expression_of}
 use Rattle.abc_tokens.proofs.Faults.{OneReading}
 use Rattle.abc_expressions.specs.inner.Steps.{Finds}
 use Rattle.abc_formula.specs.TestGrammar.{relation_of, link}
@@ -28,7 +28,7 @@ use Rattle.abc_expressions.specs.declared.signs.Sign.TheVariants as s
 use Rattle.abc_expressions.specs.declared.lexemes.Lexeme.TheVariants as t
 use Rattle.abc_formula.specs.declared.test_frames.Behind.TheVariants as behind
 use Rattle.abc_formula.specs.declared.test_frames.Front.TheVariants as front
-use Rattle.abc_formula.specs.inner.TestMachine.{FoundTest, Reads, rest_of, wrapped, joined, behind_of, quantifies, tight, closed, rounded, made, front_of, from_front, test_in, onward, expression_of, FoundLinks, linked, links_by, links_in}
+use Rattle.abc_formula.specs.inner.TestMachine.{FoundTest, Reads, rest_of, wrapped, joined, behind_of, quantifies, tight, closed, rounded, made, front_of, from_front, test_in, onward, FoundLinks, linked, links_by, links_in}
 use Rattle.abc_formula.specs.inner.TestSteps.{Fewer, FindsLinks, FindsTest, Advances, Begins, folded, fold_test, wrapped_by, behind_close}
 use Rattle.abc_expressions.proofs.Sound.{reads_single}
 use Rattle.abc_formula.proofs.TestParts.{shorter, all_behind}

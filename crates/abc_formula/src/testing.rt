@@ -2,9 +2,9 @@
 ghost use Rattle.std.specs.Prelude.{◌≡◌, ℕ, suc, ◌<◌, ◌≤◌, ◌++◌, ◌∷◌, [], All, IfOk, IfErr, IfSome, length};
 ghost use Rattle.std.specs.Option.{option_map};
 ghost use Rattle.abc_expressions.specs.Lexemes.{IsSpelled};
-ghost use Rattle.abc_expressions.specs.inner.Machine.{reader};
+ghost use Rattle.abc_expressions.specs.inner.Machine.{reader, expression_of};
 ghost use Rattle.abc_formula.specs.TestGrammar.{takes_and, takes_or};
-ghost use Rattle.abc_formula.specs.inner.TestMachine.{Reads, expression_of, joined, quantifies, links_in, lone, part_of, tight, rounded, from_front, front_of, behind_of, rest_of, from_keyword, test_in};
+ghost use Rattle.abc_formula.specs.inner.TestMachine.{Reads, joined, quantifies, links_in, lone, part_of, tight, rounded, from_front, front_of, behind_of, rest_of, from_keyword, test_in};
 ghost use Rattle.abc_formula.specs.inner.TestSteps.{Fewer, FindsLinks, FindsTest, behind_close, Advances, AdvanceRest, NoMore, Begins};
 ghost use Rattle.abc_expressions.specs.inner.Steps.{Finds};
 ghost use Rattle.abc_formula.specs.declared.test_frames.Place.TheVariants.{Whole};
@@ -15,7 +15,7 @@ use crate::test_frames::{Behind, Front, NamesEnd, Place, TestFrame};
 use crate::test_names::{is_keyword, membership_of, quantifier_of, relation_of};
 use crate::wrapping::wrapped_by_all;
 use abc_expressions::{
-    ExpressionFront, FormulaFault, Group, Lexeme, Sign, tree_in_front, with_last,
+    ExpressionFront, FormulaFault, Lexeme, Sign, expression_in_front, with_last,
 };
 use abc_num::{Items, Names, Stack};
 use abc_tokens::one_reading;
@@ -64,7 +64,7 @@ fn single<'a>(
     ensures rest { IfOk result (λ front. Fewer front.rest.now tokens.now) }
 {
     one_reading();
-    tree_in_front(alloc, own, tokens, left, least, Group::Single)
+    expression_in_front(alloc, own, tokens, left, least)
 }
 
 fn with_link(links: Links, last: Link) -> Result<Links, FormulaFault>

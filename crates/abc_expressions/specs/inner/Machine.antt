@@ -1,5 +1,5 @@
 -- The same reading as a machine over the tokens, one at a time: steps of the code. It is proved to find exactly the tree that is spelled; of
--- the public clauses only `read` of `tree_in_front` speaks of it, for the crate above.
+-- the public clauses only `read` of `expression_in_front` speaks of it, for the crate above.
 use Rattle.std.specs.Prelude.{ℕ, zero, suc, ◌+◌, Bool, true, false, ◌&&◌, ◌==◌, nat_le, if◌then◌else◌, List, [], ◌∷◌, ◌++◌, length, map, Option, Some, None}
 use Rattle.std.specs.List.{list_all}
 use Rattle.std.specs.Option.{option_map}
@@ -236,6 +236,10 @@ tree_at level whole leaves own d ts = run leaves own ts d (f.Inside level whole 
 
 abbrev pub tree_of : Group → Leaves → List (List ℕ) → ℕ → List Lexeme → Found
 tree_of = tree_at 1
+
+-- the single expression of this level in front of the tokens
+abbrev pub expression_of : Leaves → List (List ℕ) → ℕ → ℕ → List Lexeme → Found
+expression_of leaves own level d ts = tree_at level g.Single leaves own d ts
 
 -- the tree, where nothing is behind it
 abbrev pub alone : Found → Option Expr

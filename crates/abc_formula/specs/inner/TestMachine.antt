@@ -13,11 +13,8 @@ use Rattle.abc_tree.specs.declared.formulas.Quantifier.{Quantifier}
 use Rattle.abc_tree.specs.declared.formulas.Test.{Test}
 use Rattle.abc_tree.specs.declared.formulas.Test.TheVariants as test
 use Rattle.abc_tree.specs.declared.operations.Op.{Op}
-use Rattle.abc_expressions.specs.declared.frames.Frame.TheVariants as f
-use Rattle.abc_expressions.specs.declared.frames.Group.TheVariants as g
 use Rattle.abc_expressions.specs.declared.frames.Kind.{Kind}
 use Rattle.abc_expressions.specs.declared.frames.Kind.TheVariants as kind
-use Rattle.abc_expressions.specs.declared.frames.Turn.TheVariants as turn
 use Rattle.abc_expressions.specs.declared.signs.Sign.{Sign}
 use Rattle.abc_expressions.specs.declared.signs.Sign.TheVariants as s
 use Rattle.abc_expressions.specs.declared.lexemes.Lexeme.{Lexeme}
@@ -31,7 +28,7 @@ use Rattle.abc_formula.specs.declared.test_frames.NamesEnd.TheVariants as end
 use Rattle.abc_formula.specs.declared.test_frames.Behind.{Behind}
 use Rattle.abc_formula.specs.declared.test_frames.Behind.TheVariants as behind
 use Rattle.abc_expressions.specs.Operators.{kind_of}
-use Rattle.abc_expressions.specs.inner.Machine.{Found, Leaves, sign_of, run}
+use Rattle.abc_expressions.specs.inner.Machine.{Found, Leaves, sign_of, expression_of}
 use Rattle.abc_formula.specs.TestGrammar.{is_keyword, quantifier_of, relation_of, membership_of, predicate, link, is_round, gathered, takes_and, takes_or}
 
 -- a test, and the tokens behind it
@@ -136,10 +133,6 @@ formal_in own d (t.Text bytes ∷ ts) = None
 formal_in own d (t.Other ∷ ts) = None
 
 -- ---- one expression, and what follows it
-
--- the expression of this level in front of the tokens
-abbrev pub expression_of : Leaves → List (List ℕ) → ℕ → ℕ → List Lexeme → Found
-expression_of leaves own level d ts = run leaves own ts d (f.Inside level g.Single ∷ []) (turn.Wants level)
 
 abbrev pub FoundLinks : Type 0
 FoundLinks = Option (List Link × List Lexeme)
