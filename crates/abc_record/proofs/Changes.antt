@@ -61,7 +61,7 @@ tail_tested (b ∷ (c ∷ bytes)) (inr h) = joined (goes_on is_small b) (eqb b p
     same : (n : ℕ) → n ≡ point → eqb n point ≡ true
     same n e = grind (arith, nat_tests)
 
-name_told : (name : List ℕ) → is_kept_name name ≡ true → IsKeptName name
+pub name_told : (name : List ℕ) → is_kept_name name ≡ true → IsKeptName name
 unfolding is_name
 name_told [] e = absurd cc
 name_told (b ∷ bytes) e =
@@ -69,7 +69,7 @@ name_told (b ∷ bytes) e =
     let q = and_parts (is_small b) (is_tail bytes) p.0 in
     ((q.0, tail_told bytes q.1), grind (arith, nat_tests, p.1))
 
-name_tested : (name : List ℕ) → IsKeptName name → is_kept_name name ≡ true
+pub name_tested : (name : List ℕ) → IsKeptName name → is_kept_name name ≡ true
 unfolding is_name
 name_tested [] h = absurd h.0
 name_tested (b ∷ bytes) h =

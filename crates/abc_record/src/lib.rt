@@ -14,6 +14,7 @@ mod writing;
 
 pub use change::Change;
 pub use faults::RecordFault;
+pub use names::is_kept_name;
 pub use reading::read_changes;
 pub use size::size_of;
 pub use writing::write_changes;

@@ -1,5 +1,6 @@
 //! Whether bytes are a name.
-ghost use Rattle.std.specs.Prelude.{◌≡◌};
+ghost use Rattle.std.specs.Prelude.{◌≡◌, ◌↔◌, IsTrue};
+ghost use Rattle.abc_record.specs.Kept.{IsKeptName};
 ghost use Rattle.std.specs.Option.{option_map};
 ghost use Rattle.abc_tokens.specs.Bytes.{is_small, begins};
 ghost use Rattle.abc_tokens.specs.Words.{goes_on};
@@ -20,9 +21,11 @@ pub(crate) fn name_of(bytes: &[u8]) -> Option<(&[u8], &[u8])>
     Some((name, rest))
 }
 
-/// A name that a line has room for.
-fn is_kept_name(bytes: &[u8]) -> bool
-    ensures { result ≡ is_kept_name bytes.now }
+/// Whether a target of this name can be kept: it is a name, and a line has room for it. Takes time proportional to its length.
+#[tactic(auto, using(crate::proofs::Changes::name_told, crate::proofs::Changes::name_tested))]
+pub fn is_kept_name(bytes: &[u8]) -> bool
+    ensures is { result ≡ is_kept_name bytes.now }
+    ensures kept { IsTrue result ↔ IsKeptName bytes.now }
 {
     is_name(bytes) && bytes.len() <= MOST_LINE_BYTES
 }

@@ -1,5 +1,5 @@
 -- The answers of the journal, by their kinds, and how the steps of a commit come to the whole.
-use Rattle.std.proofs.Common.{◌≡◌, ◌∙◌, ℕ, Bool, true, false, cond, List, Option, None, Some, sym, ap, subst, refl}
+use Rattle.std.proofs.Common.{◌≡◌, ◌∙◌, ℕ, Bool, true, false, cond, List, [], ◌∷◌, length, nat_lt, Option, None, Some, sym, ap, subst, refl}
 use Rattle.std.specs.Prelude.{Result, Ok, Err, OnOk, IfErr, IsErrOf}
 use Rattle.abc_journal.specs.declared.faults.AppendFault.{AppendFault}
 use Rattle.abc_journal.specs.declared.faults.AppendFault.TheVariants.{StoreFault, StoreFull, Memory}
@@ -7,7 +7,11 @@ use Rattle.abc_journal.specs.declared.layout.Bounds.{Bounds}
 use Rattle.abc_journal.specs.declared.layout.Layout.{Layout}
 use Rattle.abc_journal.specs.Journal.{IsFull, need_of, after_record}
 use Rattle.abc_journal.specs.Commit.{Full, AnswersTo, and_then, recorded, checkpointed, with_room, with_due, is_due, committed}
-use Rattle.abc_store.specs.Workspace.{Workspace}
+use Rattle.abc_store.specs.Workspace.{Workspace, checkpoint_of}
+use Rattle.abc_num.specs.declared.limits.TheConstants.{MOST_RECORD_BYTES}
+use Rattle.abc_record.specs.declared.change.Change.{Change}
+use Rattle.abc_record.specs.Spelling.{spelled}
+use Rattle.abc_store.specs.Commit.{Work, Refusal, too_large, kept_in, stored}
 use Rattle.abc_store.specs.inner.Steps.{IsNoFault, IsCheckpoint, IsMadeUp, TakesDue, fits, may_be_due}
 
 -- what holds after each answer but a fault
@@ -59,6 +63,28 @@ module _ (bounds : Bounds) (layout : Layout) (bytes before after : ℕ) where
   all_done (Err Memory) roomy added new is recorded_is other done = absurd (cc)
   all_done (Err (StoreFull need limit)) roomy added new is recorded_is other done = absurd (cc)
 
+-- what is kept is not refused
+no_refusal : (later : Workspace) (layout : Layout) (refusal : Refusal) → kept_in later (Ok layout) ≡ Err refusal → ⊥
+no_refusal later layout refusal e = cc
+
+-- a record that was added fits
+no_full : (layout : Layout) (full : Full) → Ok layout ≡ Err full → ⊥
+no_full layout full e = cc
+
+module _ (bounds : Bounds) (layout roomy : Layout) (bytes before after : ℕ) (room : with_room bounds layout bytes before ≡ Ok roomy) (later : Workspace) (refusal : Refusal)
+    (refused : kept_in later (committed bounds layout bytes before after) ≡ Err refusal) where
+  -- where a commit for which room was made is refused, the record doesn't fit
+  pub no_record : (f : Full) × (recorded bounds roomy bytes ≡ Err f)
+  no_record = by_found (recorded bounds roomy bytes) refl
+    where
+      by_found : (found : Result Layout Full) → recorded bounds roomy bytes ≡ found → (f : Full) × (recorded bounds roomy bytes ≡ Err f)
+      by_found (Ok added) e =
+          absurd (no_refusal later (with_due bounds added after) refusal (sym (ap (kept_in later) (by_record bounds layout bytes before after roomy (Ok added) room e)) ∙ refused))
+      by_found (Err f) e = (f, e)
+
+  pub not_recorded : (added : Layout) → recorded bounds roomy bytes ≡ Ok added → ⊥
+  not_recorded added e = no_full added no_record.0 (sym e ∙ no_record.1)
+
 not_wanted : (wanted : Bool) (ws : Workspace) → IsMadeUp wanted None ws → wanted ≡ false
 not_wanted true ws made = absurd made
 not_wanted false ws made = refl
@@ -83,3 +109,13 @@ module _ (bounds : Bounds) (layout roomy added : Layout) (bytes before : ℕ) wh
       → TakesDue (is_due bounds added) after later
   takes_due None later made room recorded_is = by_fit (fits bounds layout bytes) refl (not_wanted (may_be_due bounds layout bytes) later made) room recorded_is
   takes_due (Some p) later made room recorded_is = is_made (may_be_due bounds layout bytes) p later made
+
+-- changes that are refused, though there are some and they aren't too large, are refused by the layout
+pub refused_by_layout : (bounds : Bounds) (work : Work) (changes : List Change) (later : Workspace) (refusal : Refusal) → (changes ≡ [] → ⊥) → nat_lt MOST_RECORD_BYTES (length (spelled changes)) ≡ false
+    → stored bounds work changes later ≡ Err refusal
+    → kept_in later (committed bounds work.layout (length (spelled changes)) (length (checkpoint_of work.kept)) (length (checkpoint_of later))) ≡ Err refusal
+refused_by_layout bounds work [] later refusal some few refused = absurd (some refl)
+refused_by_layout bounds work (change ∷ changes) later refusal some few refused =
+    let bytes = length (spelled (change ∷ changes)) in
+    let found = kept_in later (committed bounds work.layout bytes (length (checkpoint_of work.kept)) (length (checkpoint_of later))) in
+    subst (λ (b : Bool). cond b (Err (too_large bytes)) found ≡ Err refusal) few refused

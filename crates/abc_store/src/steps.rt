@@ -1,12 +1,12 @@
 //! The writes of a commit, step by step, and what the image opens to meanwhile.
-ghost use Rattle.std.specs.Prelude.{◌≡◌, ◌≤◌, ◌+◌, ℕ, Bool, true, false, length, not, None, Ok, IfErr, OnOk, IsErrOf, IsTrue, option_map};
+ghost use Rattle.std.specs.Prelude.{◌≡◌, ◌≤◌, ◌+◌, ℕ, Bool, true, false, length, not, None, Ok, Err, IfErr, OnOk, IsErrOf, IsTrue, option_map};
 ghost use Rattle.abc_outside.specs.Outside.{RoseByOne, KeepsButStore};
 ghost use Rattle.abc_outside.specs.Stop.{Leaves, IsQuiet};
 ghost use Rattle.abc_journal.specs.Journal.{HasLayout, IsFull, after_record};
-ghost use Rattle.abc_journal.specs.Commit.{AnswersTo, recorded, checkpointed, with_room, with_due, is_due as is_due_in, committed};
+ghost use Rattle.abc_journal.specs.Commit.{Full, AnswersTo, recorded, checkpointed, with_room, with_due, is_due as is_due_in, committed};
 ghost use Rattle.abc_store.specs.Workspace.{Workspace, empty, checkpoint_of};
 ghost use Rattle.abc_store.specs.Opening.{LeadsTo, OpensTo};
-ghost use Rattle.abc_store.specs.Commit.{StillOpens, OpensToEither};
+ghost use Rattle.abc_store.specs.Commit.{Refusal, kept_in, StillOpens, OpensToEither};
 ghost use Rattle.abc_store.specs.inner.Steps.{IsNoFault, SaysLimit, IsCheckpoint, IsMadeUp, IsPlan, fits, TakesDue};
 
 use crate::due::is_due;
@@ -93,6 +93,7 @@ fn add_record<H: Host>(
     ensures layout { H.tells_image → IsNoFault result → HasLayout (H.now host.new).image journal.new.layout }
     ensures opens { H.tells_image → (kept later : Workspace) → LeadsTo payload.now kept later → OpensTo (H.now host.old).image kept → OnOk result (OpensTo (H.now host.new).image later) }
     ensures full_host { IsFull result → host.new ≡ host.old }
+    ensures unfit { (full : Full) → recorded journal.old.bounds journal.old.layout (length payload.now) ≡ Err full → IsFull result }
     ensures fault { IsErrOf result AppendFault.StoreFault → RoseByOne (H.now host.old).store_faults (H.now host.new).store_faults }
     ensures faultless { IsNoFault result → (H.now host.new).store_faults ≡ (H.now host.old).store_faults }
     ensures no_memory { IsErrOf result AppendFault.Memory → ⊥ }
@@ -192,6 +193,11 @@ pub(crate) fn write_all<H: Host>(
         → (kept later : Workspace) → IsPlan journal.old.bounds journal.old.layout payload.now (option_map (λ p. p.now) before.entry) (option_map (λ p. p.now) after.entry) kept later
         → OpensTo (H.now host.old).image kept
         → IsFull result → Leaves H.clock H.stopped host.old host.new (StillOpens kept (H.now host.old).said) }
+    ensures unfit_stops { H.tells_image → IsQuiet H.clock H.stopped host.old (H.now host.old).image
+        → (kept later : Workspace) (refusal : Refusal) → IsPlan journal.old.bounds journal.old.layout payload.now (option_map (λ p. p.now) before.entry) (option_map (λ p. p.now) after.entry) kept later
+        → OpensTo (H.now host.old).image kept
+        → kept_in later (committed journal.old.bounds journal.old.layout (length payload.now) (length (checkpoint_of kept)) (length (checkpoint_of later))) ≡ Err refusal
+        → Leaves H.clock H.stopped host.old host.new (StillOpens kept (H.now host.old).said) }
     ensures quiet { H.tells_image → IsQuiet H.clock H.stopped host.old (H.now host.old).image
         → IsNoFault result → IsQuiet H.clock H.stopped host.new (H.now host.new).image }
 {

@@ -8,7 +8,7 @@ ghost use Rattle.abc_journal.specs.Journal.{BeginsQuiet, IfNotAStore, IsNotAStor
 ghost use Rattle.abc_record.specs.Kept.{AreKept};
 ghost use Rattle.abc_store.specs.Workspace.{Workspace, changed_by, changes_between, IsWithinLimits, AreNamed};
 ghost use Rattle.abc_store.specs.Opening.{Opens, OpensTo};
-ghost use Rattle.abc_store.specs.Commit.{Holds, stored, work_after, Tells, IsNoFault, IsDecided, IsTooLarge, IsStoreFull, StillOpens, OpensToEither};
+ghost use Rattle.abc_store.specs.Commit.{Holds, Refusal, stored, work_after, Tells, IsNoFault, IsDecided, IsTooLarge, IsStoreFull, StillOpens, OpensToEither};
 ghost use Rattle.abc_store.specs.View.{work_of};
 
 use crate::CommitFault;
@@ -173,6 +173,11 @@ impl Store {
             → Leaves H.clock H.stopped host.old host.new (OpensToEither self.old.kept later (H.now host.old).said) }
         ensures refused_stops { H.tells_image → IsQuiet H.clock H.stopped host.old (H.now host.old).image
             → (IsStoreFull result ⊎ IsTooLarge result ⊎ IsErrOf result CommitFault.Memory)
+            → Leaves H.clock H.stopped host.old host.new (StillOpens self.old.kept (H.now host.old).said) }
+        // Changes that are to be refused leave the workspace, whatever the answer.
+        ensures unfit_stops { H.tells_image → IsQuiet H.clock H.stopped host.old (H.now host.old).image
+            → (later : Workspace) (refusal : Refusal) → changed_by changes.items self.old.kept ≡ Some later
+            → stored self.old.bounds (work_of self.old) changes.items later ≡ Err refusal
             → Leaves H.clock H.stopped host.old host.new (StillOpens self.old.kept (H.now host.old).said) }
         ensures quiet { H.tells_image → IsQuiet H.clock H.stopped host.old (H.now host.old).image
             → IsNoFault result → IsQuiet H.clock H.stopped host.new (H.now host.new).image }

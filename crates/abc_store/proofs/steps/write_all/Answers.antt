@@ -1,13 +1,13 @@
 use Rattle.std.proofs.Common.{rules, ◌≡◌, inl, inr, ◌∙◌, not, length, option_map, sym, ap, subst}
-use Rattle.std.specs.Prelude.{Ok, OnOk}
+use Rattle.std.specs.Prelude.{Ok, Err, OnOk}
 use Rattle.abc_outside.specs.Stop.{Leaves, IsQuiet}
 use Rattle.abc_outside.proofs.Leaves.{run_after, weaken}
 use Rattle.abc_journal.specs.Commit.{AnswersTo, recorded, with_room, with_due, is_due}
 use Rattle.abc_store.specs.Workspace.{Workspace, checkpoint_of}
 use Rattle.abc_store.specs.Opening.{OpensTo}
-use Rattle.abc_store.specs.Commit.{OpensToEither}
+use Rattle.abc_store.specs.Commit.{OpensToEither, StillOpens}
 use Rattle.abc_store.specs.inner.Steps.{fits, IsPlan, TakesDue}
-use Rattle.abc_store.proofs.Stepping.{ok_alone, room_fails, record_fails, all_done, takes_due}
+use Rattle.abc_store.proofs.Stepping.{ok_alone, room_fails, record_fails, all_done, takes_due, no_record, not_recorded}
 use Rattle.abc_store.proofs.steps.write_all.Given.{Over}
 use Rattle.abc_store.proofs.steps.write_all.Goals.{In_ok-make_room, After-add_record, In_ok-add_record}
 use Rattle.abc_store.proofs.steps.write_all.Goals as goal
@@ -100,3 +100,22 @@ pub returns-clause-quiet : goal.returns-clause-quiet
 returns-clause-quiet g c told quiet none_wrong =
     ok_alone c.take_due.result (IsQuiet g.H.Host.clock g.H.Host.stopped c.take_due.new.host (g.H.Host.now c.take_due.new.host).image)
     (c.take_due.ensures.quiet told (c.in_ok-add_record.ensures.quiet told (c.in_ok-make_room.ensures.quiet told quiet tt) tt)) c.take_due.ensures.no_other none_wrong
+
+pub returns-in_err-add_record-clause-unfit_stops : goal.returns-in_err-add_record-clause-unfit_stops
+returns-in_err-add_record-clause-unfit_stops g c told quiet kept later refusal plan is refused =
+    let journal = c.args.journal.now in
+    let bytes = length c.args.payload.now in
+    let found = no_record journal.bounds journal.layout c.make_room.new.journal.layout bytes (length (checkpoint_of kept)) (length (checkpoint_of later)) (c.in_ok-make_room.ensures.layouts bytes kept plan.room) later refusal refused in
+    let unfit : recorded c.make_room.new.journal.bounds c.make_room.new.journal.layout bytes ≡ Err found.0 =
+    ap (λ b. recorded b c.make_room.new.journal.layout bytes) c.make_room.ensures.bounds ∙ found.1 in
+    subst (λ h. Leaves g.H.Host.clock g.H.Host.stopped c.args.host.now h (StillOpens kept (g.H.Host.now c.args.host.now).said)) (sym (c.add_record.ensures.full_host (c.add_record.ensures.unfit found.0 unfit)))
+    (c.make_room.ensures.stops told quiet _ kept plan.room is)
+
+pub returns-clause-unfit_stops : goal.returns-clause-unfit_stops
+returns-clause-unfit_stops g c told quiet kept later refusal plan is refused =
+    let journal = c.args.journal.now in
+    let bytes = length c.args.payload.now in
+    let recorded_is : recorded journal.bounds c.make_room.new.journal.layout bytes ≡ Ok c.add_record.new.journal.layout =
+    ap (λ b. recorded b c.make_room.new.journal.layout bytes) (sym c.make_room.ensures.bounds) ∙ c.in_ok-add_record.ensures.layouts in
+    absurd (not_recorded journal.bounds journal.layout c.make_room.new.journal.layout bytes (length (checkpoint_of kept)) (length (checkpoint_of later)) (c.in_ok-make_room.ensures.layouts bytes kept plan.room) later refusal refused
+    c.add_record.new.journal.layout recorded_is)

@@ -1,0 +1,24 @@
+use Rattle.std.proofs.Common.{rules, ◌≡◌, false, nat_lt, [], length, Some, ap, sym, subst}
+use Rattle.abc_num.specs.declared.limits.TheConstants.{MOST_RECORD_BYTES}
+use Rattle.abc_outside.specs.Stop.{Leaves}
+use Rattle.abc_record.specs.Spelling.{spelled}
+use Rattle.abc_store.specs.Workspace.{Workspace}
+use Rattle.abc_store.specs.Commit.{StillOpens}
+use Rattle.abc_store.specs.View.{work_of}
+use Rattle.abc_store.proofs.Stepping.{refused_by_layout}
+use Rattle.abc_store.proofs.store.Store.commit.Goals as goal
+
+pub returns-clause-unfit_stops : goal.returns-clause-unfit_stops
+returns-clause-unfit_stops g c told quiet later refusal made refused =
+    let kept : Workspace = record { targets = c.self.inside.targets } in
+    let last : Workspace = record { targets = c.in_ok-payload.targets } in
+    let both : Some later ≡ Some last = search rules in
+    let same : later ≡ last = cc in
+    let some : c.args.changes.items ≡ [] → ⊥ = search rules in
+    let few : nat_lt MOST_RECORD_BYTES (length (spelled c.args.changes.items)) ≡ false = search rules in
+    let it = refused_by_layout c.args.self.now.bounds (work_of c.args.self.now) c.args.changes.items later refusal some few refused in
+    let bounds : c.prepare.new.journal.bounds ≡ c.args.self.now.bounds = search rules in
+    let layout : c.prepare.new.journal.layout ≡ c.args.self.now.layout = search rules in
+    let payload : length c.deref-2.result.now ≡ length (spelled c.args.changes.items) = search rules in
+    subst (λ (w : Workspace). Leaves g.H.Host.clock g.H.Host.stopped c.args.host.now c.write_all.new.host (StillOpens w (g.H.Host.now c.args.host.now).said)) (ap (λ v. v.kept) c.self.view_is)
+    (c.write_all.ensures.unfit_stops told quiet kept last refusal (search rules) (search rules) (rw (bounds, layout, payload, ap (λ v. v.kept) c.self.view_is, sym same) it))
