@@ -122,7 +122,7 @@ quantifier_quiet (t.Text bytes) q h n ts = cc
 quantifier_quiet t.Other q h n ts = cc
 
 mutual
-  level : {own : List (List ℕ)} {d m : ℕ} {x : Expr} {ts rest : List Lexeme} → Spells own d m x ts rest → Level ts rest
+  pub level : {own : List (List ℕ)} {d m : ℕ} {x : Expr} {ts rest : List Lexeme} → Spells own d m x ts rest → Level ts rest
   level (c.number h v) n = refl
   level (c.text h q p) n = refl
   level (c.name h q) n = refl
@@ -135,7 +135,7 @@ mutual
   level (c.list h q) n = level_fills q (suc n)
   level (c.table h q) n = level_pairs q n
 
-  level_parts : {own : List (List ℕ)} {d : ℕ} {parts : List Expr} {ts rest : List Lexeme} → Parts own d parts ts rest → Level ts rest
+  pub level_parts : {own : List (List ℕ)} {d : ℕ} {parts : List Expr} {ts rest : List Lexeme} → Parts own d parts ts rest → Level ts rest
   level_parts (c.one p) n = level p n
   level_parts (c.more p q) n = level p n ∙ level_parts q n
 

@@ -17,3 +17,9 @@ pub mod Sayings
 pub mod Fitting
 pub mod Headed
 mod LineRows
+mod LineEdges
+mod Layers
+mod SoundTokens
+mod CommandForms
+mod RegularLines
+mod Keys

@@ -1,11 +1,12 @@
 //! The formulas of a line: whether refinements stand in them where they may, and whether one is too high.
-ghost use Rattle.std.specs.Prelude.{◌≡◌, ℕ, List, [], map};
+ghost use Rattle.std.specs.Prelude.{◌≡◌, ◌&&◌, ℕ, List, [], map};
 ghost use Rattle.std.specs.List.{list_any};
 ghost use Rattle.abc_tree.specs.Regular.{every, is_test_kind, is_value_kind};
 ghost use Rattle.abc_expressions.specs.NamesOfTrees.{names_are};
 ghost use Rattle.abc_clauses.specs.Names.{refinement_at};
-ghost use Rattle.abc_clauses.specs.Formulas.{beside_fits, beside_is_high, clause_fits, head_fits, head_is_high, is_misplaced, is_too_high, node_fits, node_is_high, test_fits, test_is_high, value_is_high};
-ghost use Rattle.abc_clauses.specs.inner.Naming.{names_of_fill, names_of_pair, names_of_piece, names_of_link, gives_value};
+ghost use Rattle.abc_clauses.specs.Fits.{test_fits};
+ghost use Rattle.abc_clauses.specs.Formulas.{beside_is_high, beside_is_placed, fit, head_is_high, head_is_placed, is_misplaced, is_too_high, node_is_high, node_is_placed, test_is_high, value_is_high};
+ghost use Rattle.abc_clauses.specs.inner.Naming.{address_is_fit, names_of_fill, names_of_pair, names_of_piece, names_of_link, gives_value};
 
 use crate::clause::{Clause, Head};
 use abc_expressions::is_higher;
@@ -168,9 +169,45 @@ fn test_fits(kinds: &[Option<RefinementKind>], test: &Test) -> bool
     }
 }
 
-/// Whether the formulas of the command fit.
-fn node_fits(kinds: &[Option<RefinementKind>], node: &ActionNode) -> bool
-    ensures { result ≡ node_fits [] kinds.now node.now }
+/// Whether each name in the keys of an address gives a value. Its other names may be any here: that none has another role is
+/// asked of the whole item.
+#[cycle(addresses)]
+#[tactic(auto, using(crate::proofs::Keys::on_select, crate::proofs::Keys::on_compound))]
+fn address_fits(kinds: &[Option<RefinementKind>], address: &Expr) -> bool
+    ensures { result ≡ (fit (gives_value kinds.now) address.now).address }
+{
+    match address {
+        Expr::Select(table, key) => {
+            address_fits(kinds, table.get()) && value_fits(kinds, key.get())
+        }
+        Expr::Compound(parts) => addresses_fit(kinds, parts.as_slice()),
+        Expr::Number(_) => true,
+        Expr::Text(_) => true,
+        Expr::Name(_) => true,
+        Expr::Empty => true,
+        Expr::List(_) => true,
+        Expr::Table(_) => true,
+        Expr::Apply1(_, _) => true,
+        Expr::Apply2(_, _, _) => true,
+        Expr::Call(_, _) => true,
+    }
+}
+
+#[cycle(addresses)]
+fn addresses_fit(kinds: &[Option<RefinementKind>], parts: &[Expr]) -> bool
+    ensures { result ≡ every (map (address_is_fit (gives_value kinds.now)) parts.now) }
+{
+    for part in parts {
+        if !address_fits(kinds, part) {
+            return false;
+        }
+    }
+    true
+}
+
+/// Whether refinements stand in the formulas of the command where they may.
+fn node_is_placed(kinds: &[Option<RefinementKind>], node: &ActionNode) -> bool
+    ensures { result ≡ node_is_placed [] kinds.now node.now }
 {
     match node {
         ActionNode::Write {
@@ -182,19 +219,19 @@ fn node_fits(kinds: &[Option<RefinementKind>], node: &ActionNode) -> bool
             None => true,
         },
         ActionNode::Put { value, address } => {
-            value_fits(kinds, value) && value_fits(kinds, address)
+            value_fits(kinds, value) && address_fits(kinds, address)
         }
         ActionNode::Insert { value, address } => {
-            value_fits(kinds, value) && value_fits(kinds, address)
+            value_fits(kinds, value) && address_fits(kinds, address)
         }
         ActionNode::Remove { value, address } => {
-            value_fits(kinds, value) && value_fits(kinds, address)
+            value_fits(kinds, value) && address_fits(kinds, address)
         }
-        ActionNode::Delete { address } => value_fits(kinds, address),
+        ActionNode::Delete { address } => address_fits(kinds, address),
         ActionNode::ReadExample { address, example } => {
-            value_fits(kinds, address) && value_fits(kinds, example)
+            address_fits(kinds, address) && value_fits(kinds, example)
         }
-        ActionNode::ReadRaw { address } => value_fits(kinds, address),
+        ActionNode::ReadRaw { address } => address_fits(kinds, address),
         ActionNode::Check(test) => test_fits(kinds, test),
         ActionNode::Pass => true,
         ActionNode::If(test, _) => test_fits(kinds, test),
@@ -215,11 +252,11 @@ fn node_fits(kinds: &[Option<RefinementKind>], node: &ActionNode) -> bool
     }
 }
 
-fn head_fits(kinds: &[Option<RefinementKind>], head: &Head) -> bool
-    ensures { result ≡ head_fits [] kinds.now head.now }
+fn head_is_placed(kinds: &[Option<RefinementKind>], head: &Head) -> bool
+    ensures { result ≡ head_is_placed [] kinds.now head.now }
 {
     match head {
-        Head::Simple(node) => node_fits(kinds, node),
+        Head::Simple(node) => node_is_placed(kinds, node),
         Head::If(test) => test_fits(kinds, test),
         Head::While(test) => test_fits(kinds, test),
         Head::For(_, train) => value_fits(kinds, train),
@@ -232,26 +269,27 @@ fn head_fits(kinds: &[Option<RefinementKind>], head: &Head) -> bool
     }
 }
 
-fn beside_fits(kinds: &[Option<RefinementKind>], beside: &Option<ActionNode>) -> bool
-    ensures { result ≡ beside_fits [] kinds.now beside.now }
+fn beside_is_placed(kinds: &[Option<RefinementKind>], beside: &Option<ActionNode>) -> bool
+    ensures { result ≡ beside_is_placed [] kinds.now beside.now }
 {
     match beside {
-        Some(node) => node_fits(kinds, node),
+        Some(node) => node_is_placed(kinds, node),
         None => true,
     }
 }
 
-fn fits(kinds: &[Option<RefinementKind>], clause: &Clause) -> bool
-    ensures { result ≡ clause_fits [] kinds.now clause.now }
+fn is_placed(kinds: &[Option<RefinementKind>], clause: &Clause) -> bool
+    ensures { result ≡ (head_is_placed [] kinds.now clause.now.head && beside_is_placed [] kinds.now clause.now.beside) }
 {
-    head_fits(kinds, &clause.head) && beside_fits(kinds, &clause.beside)
+    head_is_placed(kinds, &clause.head) && beside_is_placed(kinds, &clause.beside)
 }
 
-/// Whether the line calls a test refinement as an expression, or an expression refinement as a test. Takes no memory.
+/// Whether the line calls a test refinement as an expression, or an expression refinement as a test. A refinement that stands as
+/// an address is none of these. Takes no memory.
 pub fn is_misplaced(kinds: &[Option<RefinementKind>], clause: &Clause) -> bool
     ensures { (own : List (List ℕ)) → result ≡ is_misplaced own kinds.now clause.now }
 {
-    !fits(kinds, clause)
+    !is_placed(kinds, clause)
 }
 
 fn value_is_high(value: &Expr) -> bool

@@ -8,3 +8,6 @@ mod Told
 mod Owned
 mod NameKinds
 mod Worked
+mod Unled
+mod SeenTokens
+mod Edging
