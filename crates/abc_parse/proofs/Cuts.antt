@@ -2,7 +2,7 @@
 use Rattle.std.proofs.Common.{◌≡◌, ◌≤◌, ◌<◌, ℕ, Bool, true, false, cond, List, [], ◌∷◌, refl, ap, sym, ◌∙◌, arith}
 use Rattle.std.specs.Prelude.{nat_lt}
 use Rattle.std.proofs.lemmas.Bool.{lt-ltb, ltb-true}
-use Rattle.abc_parse.specs.declared.sayings.Saying.{Saying}
+use Rattle.abc_faults.specs.declared.sayings.Saying.{Saying}
 use Rattle.abc_parse.specs.declared.parts.Root.{Root}
 use Rattle.abc_parse.specs.Roots.{taken, parts_of}
 use Rattle.abc_parse.specs.Trees.{deeper, behind}

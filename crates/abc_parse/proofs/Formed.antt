@@ -1,7 +1,7 @@
 -- Where no fault stands the lines spell parts.
-use Rattle.std.proofs.Common.{◌≡◌, ◌≤◌, ◌<◌, ◌+◌, ℕ, suc, zero, Bool, true, false, ◌&&◌, not, cond, List, [], ◌∷◌, length, Option, Some, None, refl, ap, sym, ◌∙◌, subst, arith, ◌⊎◌, inl, inr}
+use Rattle.std.proofs.Common.{◌≡◌, ◌≤◌, ◌<◌, ◌+◌, ℕ, Bool, true, false, ◌&&◌, not, cond, List, [], ◌∷◌, length, Option, Some, None, refl, ap, sym, ◌∙◌, subst, arith, ◌⊎◌, inl, inr}
 use Rattle.std.specs.Prelude.{nat_lt, nat_le, ◌==◌, ◌||◌, if◌then◌else◌, option_map}
-use Rattle.std.proofs.lemmas.Bool.{lt-ltb, ltb-true, le-leb}
+use Rattle.std.proofs.lemmas.Bool.{ltb-true, le-leb}
 use Rattle.abc_tree.specs.declared.commands.Action.{Action}
 use Rattle.abc_tree.specs.declared.commands.ActionNode.{ActionNode}
 use Rattle.abc_tree.specs.declared.commands.ActionNode.TheVariants as node
@@ -17,22 +17,24 @@ use Rattle.abc_outline.specs.Outline.{around, is_chosen, opens_select, role_of, 
 use Rattle.abc_clauses.specs.declared.clause.Clause.{Clause}
 use Rattle.abc_clauses.specs.declared.clause.Head.{Head}
 use Rattle.abc_clauses.specs.declared.clause.Head.TheVariants as head
-use Rattle.abc_parse.specs.declared.facts.Facts.{Facts}
-use Rattle.abc_parse.specs.declared.fault.FaultKind.{FaultKind}
-use Rattle.abc_parse.specs.declared.fault.FaultKind.TheVariants as k
+use Rattle.abc_faults.specs.declared.facts.Facts.{Facts}
+use Rattle.abc_faults.specs.declared.fault.FaultKind.{FaultKind}
+use Rattle.abc_faults.specs.declared.fault.FaultKind.TheVariants as k
 use Rattle.abc_parse.specs.declared.parts.Part.{Part}
 use Rattle.abc_parse.specs.declared.parts.Part.TheVariants as p
 use Rattle.abc_parse.specs.declared.parts.Root.{Root}
-use Rattle.abc_parse.specs.declared.sayings.Saying.{Saying}
+use Rattle.abc_faults.specs.declared.sayings.Saying.{Saying}
 use Rattle.abc_parse.specs.Roots.{taken, kept, parts_of}
-use Rattle.abc_parse.specs.Parts.{grown, alone, commands, alternatives, command, way, on, opens, has_suite_below}
-use Rattle.abc_parse.specs.Facts.{edges, place_below, clause_of, clause_read, if_agrees, agrees, suits, same as alike, is_select}
-use Rattle.abc_parse.specs.Causes.{KINDS, is_alternative, cause, stands_between, sight_of, bad_indent, bad_place, behind_refinement, head_misplaced, where_said}
-use Rattle.abc_parse.specs.Faults.{fault_from, or_else}
-use Rattle.abc_parse.specs.Trees.{saying, AllSay, stop, next_line, root, made_alone, made_over, refined, Reads, none, plain, over, Suited, Sections, end, same, refinement}
+use Rattle.abc_parse.specs.Parts.{grown, alone, commands, alternatives, command, way, on}
+use Rattle.abc_faults.specs.Facts.{opens, has_suite_below}
+use Rattle.abc_faults.specs.Facts.{edges, place_below, clause_of, clause_read, if_agrees, agrees, suits, same as alike, is_select}
+use Rattle.abc_faults.specs.Causes.{KINDS, is_alternative, cause, stands_between, sight_of, bad_indent, bad_place, behind_refinement, head_misplaced, where_said}
+use Rattle.abc_faults.specs.Faults.{fault_from}
+use Rattle.abc_parse.specs.Trees.{root, refined, Reads, none, Suited, Sections, end, same, refinement}
+use Rattle.abc_faults.specs.Sayings.{saying, AllSay, stop, next_line}
 use Rattle.abc_tree.specs.declared.commands.RefinementKind.{RefinementKind}
-use Rattle.abc_parse.proofs.Around.{not_lt, at_most, around_same, chosen_first, chosen_role, not_first}
-use Rattle.abc_parse.proofs.Leasts.{both, none_of, is_kind, or_none}
+use Rattle.abc_faults.proofs.Around.{at_most, around_same, chosen_first, chosen_role, not_first}
+use Rattle.abc_faults.proofs.Leasts.{both, none_of, is_kind, or_none}
 use Rattle.abc_parse.proofs.Joining.{reads_over, reads_plain}
 
 abbrev pub is_way : Part → Bool

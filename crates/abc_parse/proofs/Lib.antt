@@ -1,9 +1,12 @@
 -- Lemmas of the parser.
 mod Cuts
 mod Joining
-mod Leasts
-mod Around
 mod Formed
 mod Whole
 mod Alone
-mod Judged
+mod Stepping
+mod Built
+mod Computed
+mod Taking
+mod Said
+mod Backward

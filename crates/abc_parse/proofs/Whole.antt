@@ -1,5 +1,5 @@
 -- An item without a fault, and that it is one.
-use Rattle.std.proofs.Common.{◌≡◌, ◌≤◌, ◌<◌, ℕ, suc, zero, Bool, true, false, ◌&&◌, not, cond, List, [], ◌∷◌, length, map, Option, Some, None, refl, ap, sym, ◌∙◌, subst, arith, inl, inr}
+use Rattle.std.proofs.Common.{◌≡◌, ◌≤◌, ◌<◌, ℕ, suc, zero, Bool, true, false, ◌&&◌, not, cond, List, [], ◌∷◌, Option, Some, None, refl, ap, sym, ◌∙◌, subst, arith, inl, inr}
 use Rattle.std.specs.Prelude.{nat_lt, nat_le, ◌==◌, ◌||◌, if◌then◌else◌, option_map, is_none}
 use Rattle.std.proofs.lemmas.Bool.{lt-ltb, ltb-true}
 use Rattle.abc_num.specs.declared.lines.Line.{Line}
@@ -19,32 +19,30 @@ use Rattle.abc_tree.specs.declared.templates.Template.{Template}
 use Rattle.abc_outline.specs.declared.edges.Edges.{Edges}
 use Rattle.abc_outline.specs.declared.edges.Role.{Role}
 use Rattle.abc_outline.specs.declared.edges.Role.TheVariants as role
-use Rattle.abc_outline.specs.declared.edges.Setting.{Setting}
 use Rattle.abc_outline.specs.declared.rows.Row.{Row}
 use Rattle.abc_outline.specs.Rows.{row_of, rows_of}
-use Rattle.abc_outline.specs.Outline.{around, left, is_chosen, opens_select, role_of, is_refinement, is_heading, may_be_heading, first_role}
+use Rattle.abc_outline.specs.Outline.{around, is_chosen, opens_select, role_of, is_refinement, is_heading, may_be_heading, first_role}
 use Rattle.abc_clauses.specs.declared.clause.Clause.{Clause}
 use Rattle.abc_clauses.specs.declared.clause.Head.{Head}
 use Rattle.abc_clauses.specs.declared.clause.Head.TheVariants as head
-use Rattle.abc_parse.specs.declared.facts.Facts.{Facts}
-use Rattle.abc_parse.specs.declared.fault.Fault.{Fault}
-use Rattle.abc_parse.specs.declared.fault.FaultKind.{FaultKind}
-use Rattle.abc_parse.specs.declared.fault.FaultKind.TheVariants as k
+use Rattle.abc_faults.specs.declared.facts.Facts.{Facts}
+use Rattle.abc_faults.specs.declared.fault.FaultKind.TheVariants as k
 use Rattle.abc_parse.specs.declared.parts.Part.{Part}
 use Rattle.abc_parse.specs.declared.parts.Part.TheVariants as p
 use Rattle.abc_parse.specs.declared.parts.Root.{Root}
-use Rattle.abc_parse.specs.declared.sayings.Saying.{Saying}
-use Rattle.abc_parse.specs.Roots.{taken, kept, parts_of}
-use Rattle.abc_parse.specs.Parts.{grown, alone, commands, alternatives, command, way, opens, has_suite_below}
-use Rattle.abc_parse.specs.Facts.{facts_of, edges, place_below, clause_of, suits}
-use Rattle.abc_parse.specs.Causes.{cause, is_alternative, bad_indent, bad_place, sight_of, head_misplaced, may_share, stands_between}
-use Rattle.abc_parse.specs.Environments.{is_environment, environment_fault, asked}
-use Rattle.abc_parse.specs.Faults.{fault_from}
-use Rattle.abc_parse.specs.Items.{refinement_kind, all_shared, numbered, command_root, SpellsCommand, SpellsUnit, Asks, SpellsRows, SpellsItem, fault_of_rows, item_fault}
-use Rattle.abc_parse.specs.Trees.{saying, AllSay, stop, next_line, deeper, behind, made_alone, root, Reads, none, plain, over, Suited, Sections, end, same, refinement, refined}
-use Rattle.abc_parse.proofs.Around.{not_lt, at_most, around_same, chosen_first}
-use Rattle.abc_parse.proofs.Formed.{is_way, Good, Deep, Cut, quiet, it_suits, ends, selects, next_low, first_indent, read_over, read_alone, faultless_cut, first_command, suit, placed, Commands, Follows, not_refined}
-use Rattle.abc_parse.proofs.Leasts.{both, or_none}
+use Rattle.abc_faults.specs.declared.sayings.Saying.{Saying}
+use Rattle.abc_parse.specs.Roots.{parts_of}
+use Rattle.abc_parse.specs.Parts.{grown, alone, commands, alternatives, command, way}
+use Rattle.abc_faults.specs.Facts.{opens, has_suite_below, facts_of, edges, place_below, clause_of, suits}
+use Rattle.abc_faults.specs.Causes.{cause, bad_indent, sight_of, head_misplaced}
+use Rattle.abc_faults.specs.Environments.{is_environment, environment_fault, asked}
+use Rattle.abc_faults.specs.Faults.{fault_from, fault_of_rows, item_fault}
+use Rattle.abc_parse.specs.Items.{refinement_kind, all_shared, numbered, command_root, SpellsCommand, SpellsUnit, Asks, SpellsRows, SpellsItem}
+use Rattle.abc_parse.specs.Trees.{behind, made_alone, root, Reads, none, plain, over, Suited, Sections, end, same, refinement, refined}
+use Rattle.abc_faults.specs.Sayings.{saying, AllSay, stop, next_line}
+use Rattle.abc_faults.proofs.Around.{at_most, around_same, chosen_first}
+use Rattle.abc_parse.proofs.Formed.{is_way, Good, quiet, it_suits, ends, selects, next_low, first_indent, read_over, read_alone, faultless_cut, first_command, suit, placed, Commands, Follows, not_refined}
+use Rattle.abc_faults.proofs.Leasts.{or_none}
 use Rattle.abc_parse.proofs.Joining.{one_reading, one_suite, one_cut, not_empty_reads, alone_none}
 
 -- ---- one item
@@ -280,7 +278,7 @@ module _ (facts : Facts) (first : Row) (rows : List Row) (f : fault_from facts [
   AllDeep [] = Unit {0}
   AllDeep (l ∷ lines) = (0 < l.indent) × AllDeep lines
 
-  no_sections : facts.setting.unit ≡ false → (kinds : _) → (before : Row) (above below : List Row) (lines front : List Saying) (more : List Refinement) → AllSay facts (before ∷ above) below lines → Sections kinds lines front more → front ≡ lines
+  pub no_sections : facts.setting.unit ≡ false → (kinds : _) → (before : Row) (above below : List Row) (lines front : List Saying) (more : List Refinement) → AllSay facts (before ∷ above) below lines → Sections kinds lines front more → front ≡ lines
   no_sections unit kinds before above below lines front more a s = by_lines before above below lines front more a s where
     by_lines : (before : Row) (above below : List Row) (lines front : List Saying) (more : List Refinement) → AllSay facts (before ∷ above) below lines → Sections kinds lines front more → front ≡ lines
     by_lines before above below lines front more stop end = refl

@@ -1,5 +1,5 @@
--- The tree of an item, and its fault.
-use Rattle.std.specs.Prelude.{◌≡◌, ℕ, Bool, true, false, List, [], ◌∷◌, map, Option, Some, None, option_map, unwrap_or, if◌then◌else◌}
+-- The tree of an item.
+use Rattle.std.specs.Prelude.{◌≡◌, ℕ, true, false, List, [], ◌∷◌, map, Option, Some, None, unwrap_or}
 use Rattle.abc_num.specs.Names.{number_of}
 use Rattle.abc_num.specs.declared.lines.Line.{Line}
 use Rattle.abc_tree.specs.Lists.{flat}
@@ -16,15 +16,14 @@ use Rattle.abc_outline.specs.Rows.{rows_of}
 use Rattle.abc_clauses.specs.Names.{Kinds, refinement_at}
 use Rattle.abc_clauses.specs.declared.clause.Head.{Head}
 use Rattle.abc_clauses.specs.declared.clause.Head.TheVariants as head
-use Rattle.abc_parse.specs.declared.facts.Facts.{Facts}
-use Rattle.abc_parse.specs.declared.fault.Fault.{Fault}
+use Rattle.abc_faults.specs.declared.facts.Facts.{Facts}
 use Rattle.abc_parse.specs.declared.parts.Root.{Root}
 use Rattle.abc_parse.specs.declared.parts.Part.TheVariants as part
-use Rattle.abc_parse.specs.declared.sayings.Saying.{Saying}
-use Rattle.abc_parse.specs.Environments.{is_environment, environment_fault, asked}
-use Rattle.abc_parse.specs.Facts.{facts_of}
-use Rattle.abc_parse.specs.Faults.{fault_from}
-use Rattle.abc_parse.specs.Trees.{AllSay, Reads, Sections, Suited}
+use Rattle.abc_faults.specs.declared.sayings.Saying.{Saying}
+use Rattle.abc_faults.specs.Environments.{is_environment, asked}
+use Rattle.abc_faults.specs.Facts.{facts_of}
+use Rattle.abc_parse.specs.Trees.{Reads, Sections, Suited}
+use Rattle.abc_faults.specs.Sayings.{AllSay}
 
 -- the kind of a refinement: that of its name; a keyword is no name and refines commands
 abbrev pub kind_there : Option RefinementKind → RefinementKind
@@ -88,12 +87,3 @@ SpellsRows lines rows targets (item.Unit u) = (is_environment rows ≡ false) ×
 
 abbrev pub SpellsItem : List Line → List (List ℕ) → Item → Type 0
 SpellsItem lines targets it = SpellsRows lines (rows_of lines) targets it
-
--- the fault of an item
-abbrev pub fault_of_rows : List (List ℕ) → List Row → Option Fault
-fault_of_rows targets [] = None
-fault_of_rows targets (row ∷ rows) = if is_environment (row ∷ rows) then option_map (λ kind. record { line = 1; kind = kind }) (environment_fault row)
-    else fault_from (facts_of targets (row ∷ rows)) [] (row ∷ rows)
-
-abbrev pub item_fault : List Line → List (List ℕ) → Option Fault
-item_fault lines targets = fault_of_rows targets (rows_of lines)

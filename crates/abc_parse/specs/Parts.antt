@@ -1,5 +1,5 @@
 -- What a line makes of the parts below it.
-use Rattle.std.specs.Prelude.{ℕ, Bool, true, false, List, [], ◌∷◌, Option, Some, None, option_map}
+use Rattle.std.specs.Prelude.{ℕ, List, [], ◌∷◌, Option, Some, None, option_map}
 use Rattle.abc_tree.specs.declared.commands.Action.{Action, roll-Action}
 use Rattle.abc_tree.specs.declared.commands.Alternative.{Alternative, roll-Alternative}
 use Rattle.abc_tree.specs.declared.commands.ActionNode.{ActionNode}
@@ -7,7 +7,6 @@ use Rattle.abc_tree.specs.declared.commands.ActionNode.TheVariants as node
 use Rattle.abc_tree.specs.declared.formulas.Test.{Test}
 use Rattle.abc_clauses.specs.declared.clause.Head.{Head}
 use Rattle.abc_clauses.specs.declared.clause.Head.TheVariants as head
-use Rattle.abc_clauses.specs.declared.clause.Clause.{Clause}
 use Rattle.abc_parse.specs.declared.parts.Part.{Part}
 use Rattle.abc_parse.specs.declared.parts.Part.TheVariants as part
 
@@ -55,13 +54,3 @@ alone line h (Some beside) = grown line h (command line beside ∷ [])
 alone line (head.Simple n) None = Some (command line n)
 alone line (head.Share names) None = Some part.Nothing
 alone line _ None = None
-
--- whether a heading's suite stands below it
-abbrev pub has_suite_below : Head → Option ActionNode → Bool
-has_suite_below h (Some beside) = false
-has_suite_below (head.Simple n) None = false
-has_suite_below (head.Share names) None = false
-has_suite_below _ None = true
-
-abbrev pub opens : Clause → Bool
-opens clause = has_suite_below clause.head clause.beside

@@ -1,5 +1,5 @@
 -- What the lines of an item spell, by what each of them says and by their indentations.
-use Rattle.std.specs.Prelude.{◌≡◌, ℕ, Bool, true, false, nat_lt, List, [], ◌∷◌, Option, Some, None, if◌then◌else◌}
+use Rattle.std.specs.Prelude.{◌≡◌, ℕ, nat_lt, List, [], ◌∷◌, Option, Some, None, if◌then◌else◌}
 use Rattle.abc_tree.specs.declared.commands.Action.{Action}
 use Rattle.abc_tree.specs.declared.commands.ActionNode.{ActionNode}
 use Rattle.abc_tree.specs.declared.commands.Refinement.{Refinement}
@@ -7,24 +7,11 @@ use Rattle.abc_tree.specs.declared.commands.RefinementKind.{RefinementKind}
 use Rattle.abc_clauses.specs.declared.clause.Head.{Head}
 use Rattle.abc_clauses.specs.declared.clause.Head.TheVariants as head
 use Rattle.abc_clauses.specs.declared.clause.Clause.{Clause}
-use Rattle.abc_parse.specs.declared.sayings.Saying.{Saying}
+use Rattle.abc_faults.specs.declared.sayings.Saying.{Saying}
 use Rattle.abc_parse.specs.declared.parts.Part.{Part}
 use Rattle.abc_parse.specs.declared.parts.Root.{Root}
-use Rattle.abc_outline.specs.declared.rows.Row.{Row}
-use Rattle.abc_parse.specs.declared.facts.Facts.{Facts}
-use Rattle.abc_parse.specs.Facts.{place_below, clause_of}
 use Rattle.abc_parse.specs.Parts.{grown, alone, commands, on}
 use Rattle.abc_parse.specs.Roots.{parts_of}
-
--- what a line says, with its indentation
-abbrev pub saying : Row → Clause → Saying
-saying row clause = record { indent = row.edges.indent; clause = clause }
-
--- what the lines from here on say, with these above, the last of which is first
-pub data AllSay (facts : Facts) : List Row → List Row → List Saying → Type 0 where
-  stop : {above : List Row} → AllSay facts above [] []
-  next_line : {above rows : List Row} {row : Row} {clause : Clause} {lines : List Saying} → clause_of facts (place_below facts above row) row ≡ Some clause
-      → AllSay facts (row ∷ above) rows lines → AllSay facts above (row ∷ rows) (saying row clause ∷ lines)
 
 -- the lines at the front that are deeper than n, and those from the first other on
 abbrev pub deeper : ℕ → List Saying → List Saying

@@ -1,21 +1,12 @@
 //! What the definitions of faults and trees mean together.
-ghost use Rattle.std.specs.Prelude.{◌≡◌, ℕ, List, [], ◌∷◌, Some, None, true};
-ghost use Rattle.abc_outline.specs.declared.rows.Row.{Row};
+ghost use Rattle.std.specs.Prelude.{◌≡◌, ◌↔◌, ℕ, List, ◌∷◌, Some, None, true};
 ghost use Rattle.abc_outline.specs.Outline.{is_unit};
 ghost use Rattle.abc_outline.specs.Rows.{rows_of};
-ghost use Rattle.abc_parse.specs.declared.facts.Facts.{Facts};
-ghost use Rattle.abc_parse.specs.declared.fault.Fault.{Fault};
-ghost use Rattle.abc_parse.specs.declared.fault.FaultKind.{FaultKind};
 ghost use Rattle.abc_num.specs.declared.lines.Line.{Line};
 ghost use Rattle.abc_tree.specs.declared.commands.Item.{Item};
-ghost use Rattle.abc_parse.specs.Faults.{fault_from, IsFirst, StandsAt};
-ghost use Rattle.abc_parse.specs.Items.{SpellsItem, item_fault};
-
-/// The fault of lines is the first that stands in the first faulty line; where there is none, none stands.
-pub fn least_fault()
-    ensures found { (facts : Facts) (rows : List Row) (at : Fault) → fault_from facts [] rows ≡ Some at → IsFirst facts rows at }
-    ensures none { (facts : Facts) (rows : List Row) → fault_from facts [] rows ≡ None → (n : ℕ) (kind : FaultKind) → StandsAt facts [] rows n kind → ⊥ }
-{}
+ghost use Rattle.abc_faults.specs.Faults.{item_fault};
+ghost use Rattle.abc_parse.specs.Items.{SpellsItem};
+ghost use Rattle.abc_parse.specs.Readings.{item_of};
 
 /// Lines have at most one item.
 pub fn one_item()
@@ -27,8 +18,14 @@ pub fn faultless()
     ensures { (first : Line) (rest : List Line) (targets : List (List ℕ)) → item_fault (first ∷ rest) targets ≡ None → (item : Item) × SpellsItem (first ∷ rest) targets item }
 {}
 
+/// The item that lines without a fault spell is what is computed for them.
+pub fn computed_item()
+    ensures { (lines : List Line) (targets : List (List ℕ)) (item : Item) → (SpellsItem lines targets item × (item_fault lines targets ≡ None)) ↔ (item_of lines targets ≡ Some item) }
+{}
+
 /// What a unit is, and its fault, depend on its lines alone: not on the targets.
 pub fn unit_alone()
     ensures fault { (lines : List Line) (s t : List (List ℕ)) → is_unit (rows_of lines) ≡ true → item_fault lines s ≡ item_fault lines t }
+    ensures computed { (lines : List Line) (s t : List (List ℕ)) → is_unit (rows_of lines) ≡ true → item_of lines s ≡ item_of lines t }
     ensures tree { (lines : List Line) (s t : List (List ℕ)) (item : Item) → is_unit (rows_of lines) ≡ true → SpellsItem lines s item → SpellsItem lines t item }
 {}

@@ -1,20 +1,17 @@
-//! The parser: what the fault and the tree of an item are, the laws of these definitions, and the fault of a line.
+//! The parser: what an item says, its tree or its fault, and the laws of trees and faults.
 #![tactic(auto)]
 
-mod above;
-mod causes;
-mod environment;
-mod exits;
-mod facts;
+mod building;
+mod cutting;
 mod fault;
-mod given;
-mod judge;
+mod items;
 mod laws;
+mod making;
 mod parts;
-mod reading;
-mod sayings;
-mod sight;
-mod taken_names;
+mod roots;
+mod shares;
 
-pub use fault::{Fault, FaultKind};
-pub use laws::{faultless, least_fault, one_item, unit_alone};
+pub use fault::ItemFault;
+pub use items::parse_item;
+pub use laws::{computed_item, faultless, one_item, unit_alone};
+pub use parts::{Part, Root};

@@ -1,6 +1,0 @@
-use Rattle.std.proofs.Common.{◌≡◌, drop}
-use Rattle.abc_parse.specs.Causes.{goes_on}
-use Rattle.abc_parse.proofs.causes.goes_on.Given as goal
-
-abbrev pub invariant-loop-row : goal.invariant-loop-row
-invariant-loop-row l = goes_on l.fn.indent l.below ≡ goes_on l.fn.indent (drop l.row-index l.below)

@@ -1,6 +1,0 @@
-use Rattle.std.proofs.Common.{◌≡◌, drop}
-use Rattle.abc_parse.specs.Names.{meet}
-use Rattle.abc_parse.proofs.taken_names.meet.Given as goal
-
-abbrev pub invariant-loop-name : goal.invariant-loop-name
-invariant-loop-name l = meet l.names l.others ≡ meet l.names (drop l.name-index l.others)
