@@ -1,2 +1,4 @@
--- Lemmas on the pending work.
-pub mod Levels
+-- Lemmas on the machine.
+pub mod Falling
+pub mod Moving
+pub mod Starting

@@ -1,2 +1,4 @@
--- How the machine is seen.
-pub mod inner
+pub mod Outcomes
+pub mod Pending
+pub mod Machine
+pub mod Moves

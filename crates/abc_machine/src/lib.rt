@@ -1,10 +1,9 @@
-//! The stack machine that runs commands: its pending work, and how each piece of it begins and goes on. Nothing is called from
-//! outside yet.
+//! The machine that runs an immediate command: its pending work on a stack of its own, and one step of it.
 #![tactic(auto)]
 
-mod actuals;
-mod commands;
-mod expressions;
-mod pending;
-mod place;
-mod testing;
+mod machine;
+mod moves;
+mod outcome;
+
+pub use machine::Machine;
+pub use outcome::{Outcome, RunStop, Stepped};

@@ -1,0 +1,25 @@
+-- What an answer of run_item says of the meaning of a command.
+use Rattle.std.specs.Prelude.{◌≡◌, ℕ, List, Result, Ok, Err}
+use Rattle.abc_num.specs.declared.lines.RawLine.{RawLine}
+use Rattle.abc_frames.specs.Maps.{Targets}
+use Rattle.abc_meaning.specs.State.{wants}
+use Rattle.abc_meaning.specs.Ran.{Ran as Meant, stopped}
+use Rattle.abc_machine.specs.Outcomes.{outcome_of}
+use Rattle.abc_machine.specs.declared.outcome.RunStop.{RunStop}
+use Rattle.abc_machine.specs.declared.outcome.RunStop.TheVariants.{Input, Long, Memory}
+use Rattle.abc_eval.specs.declared.running.Ran.{Ran}
+
+-- a run, with the targets afterwards and the lines left
+abbrev pub as_meant : Ran → Targets → List RawLine → Meant
+as_meant r targets lines = record { outcome = outcome_of r.outcome; targets = targets; output = r.output; lines = lines; steps = r.steps }
+
+-- the command wants a line that isn't there yet
+abbrev pub WantsLine : Meant → Type 0
+WantsLine g = (line : ℕ) × (g.outcome ≡ stopped line wants)
+
+-- The run is what the command means, or the command wants a line. Want of memory, and a fault of the input, say nothing of it.
+abbrev pub IsRun : Result Ran RunStop → Targets → List RawLine → Meant → Type 0
+IsRun (Ok r) targets lines g = g ≡ as_meant r targets lines
+IsRun (Err Long) targets lines g = WantsLine g
+IsRun (Err Input) targets lines g = Unit {0}
+IsRun (Err Memory) targets lines g = Unit {0}

@@ -1,0 +1,46 @@
+-- What a run comes to before its targets are settled, and the settling.
+use Rattle.std.specs.Prelude.{◌≡◌, ◌-◌, ℕ, Result, Ok, Err}
+use Rattle.abc_frames.specs.Maps.{Targets}
+use Rattle.abc_outside.specs.Lines.{Unread, lines_in}
+use Rattle.abc_meaning.specs.State.{State, Flow, Got}
+use Rattle.abc_pending.specs.Leads.{as_flow}
+use Rattle.abc_pending.specs.Pending.{Answer}
+use Rattle.abc_machine.specs.Outcomes.{EndsSo}
+use Rattle.abc_machine.specs.Machine.{WantsOne}
+use Rattle.abc_machine.specs.declared.outcome.Outcome.{Outcome}
+use Rattle.abc_machine.specs.declared.outcome.Outcome.TheVariants.{Done, Quit}
+use Rattle.abc_machine.specs.declared.outcome.RunStop.{RunStop}
+use Rattle.abc_machine.specs.declared.outcome.RunStop.TheVariants.{Input, Long, Memory}
+use Rattle.abc_eval.specs.declared.running.Ran.{Ran}
+
+-- the run ends with these targets, this output, these lines left and so many steps
+pub record IsEnd (r : Ran) (targets : Targets) (unread : Unread) (budget : ℕ) (g : Got Flow) : Type 0 where
+  pub end : State
+  pub ends : EndsSo r.outcome end (as_flow g)
+  pub targets_are : end.targets ≡ targets
+  pub output_is : end.output ≡ r.output
+  pub lines_are : end.lines ≡ lines_in unread
+  pub steps_are : budget - end.left ≡ r.steps
+
+abbrev pub Comes : Result Ran RunStop → Targets → Unread → ℕ → Got Flow → Type 0
+Comes (Ok r) targets unread budget g = IsEnd r targets unread budget g
+Comes (Err Long) targets unread budget g = WantsOne (as_flow g)
+Comes (Err Input) targets unread budget g = Unit {0}
+Comes (Err Memory) targets unread budget g = Unit {0}
+
+-- how the steps of a machine end
+abbrev pub Ends : Result Outcome RunStop → State → Got Answer → Type 0
+Ends (Ok o) s g = EndsSo o s g
+Ends (Err Long) s g = WantsOne g
+Ends (Err Input) s g = Unit {0}
+Ends (Err Memory) s g = Unit {0}
+
+-- the targets from before, unless the run came to its end
+abbrev pub settled_by : Outcome → Targets → Targets → Targets
+settled_by Done before now = now
+settled_by Quit before now = now
+settled_by o before now = before
+
+abbrev pub settled : Result Ran RunStop → Targets → Targets → Targets
+settled (Ok r) before now = settled_by r.outcome before now
+settled (Err stop) before now = before

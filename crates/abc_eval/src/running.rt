@@ -1,0 +1,145 @@
+//! The run of an immediate command, whole or not at all.
+ghost use Rattle.std.specs.Prelude.{◌≡◌, ◌≤◌, ◌+◌, IfOk, OnErr, IsErrOf};
+ghost use Rattle.abc_num.specs.declared.limits.TheConstants.{MOST_DEPTH};
+ghost use Rattle.abc_outside.specs.Lines.{lines_in};
+ghost use Rattle.abc_outside.specs.Outside.{RoseByOne};
+ghost use Rattle.abc_meaning.specs.Meaning.{meaning};
+ghost use Rattle.abc_meaning.specs.Ran.{ran, standing, starting};
+ghost use Rattle.abc_machine.specs.Outcomes.{HasMemory};
+ghost use Rattle.abc_eval.specs.Runs.{IsRun};
+ghost use Rattle.abc_machine.specs.Machine.{IsBusy, IsOf, pending, state_within};
+ghost use Rattle.abc_eval.specs.inner.Coming.{Comes, Ends, settled};
+
+use abc_frames::{Kept, Targets};
+use abc_machine::{Machine, Outcome, RunStop, Stepped};
+use abc_num::Text;
+use abc_outside::Lines;
+use abc_tree::{Command, Units};
+use std::alloc::Global;
+
+/// A run of an immediate command.
+#[derive(Drop)]
+pub struct Ran {
+    pub outcome: Outcome,
+    pub output: Text,
+    pub steps: u64,
+}
+
+/// Runs an immediate command, which may take so many steps. After a fault, after Wrong and after an error the targets are as before;
+/// lines that were taken stay taken. The targets are copied once, before the first step.
+#[tactic(auto, using(crate::proofs::Settling::settled_run))]
+pub fn run_item<L: Lines>(
+    alloc: Global,
+    c: &Command,
+    units: &Units,
+    targets: &mut Targets,
+    lines: &mut L,
+    steps: u64,
+) -> Result<Ran, RunStop>
+    ensures ran { L.tells_unread → IsRun result targets.new (lines_in (L.unread lines.new)) (ran units.now MOST_DEPTH c.now targets.old (lines_in (L.unread lines.old)) (L.unread lines.old).ends steps) }
+    ensures memory { IfOk result (λ r. HasMemory r.outcome) }
+    ensures steps { IfOk result (λ r. r.steps ≤ steps) }
+    ensures kept { OnErr result (targets.new ≡ targets.old) }
+    ensures bound { L.bound lines.new ≡ L.bound lines.old }
+    ensures taken { L.taken lines.old ≤ L.taken lines.new }
+    ensures long { IsErrOf result RunStop.Long → L.taken lines.new ≡ L.bound lines.new }
+    ensures input { IsErrOf result RunStop.Input → RoseByOne (L.faults lines.old) (L.faults lines.new) }
+    ensures faultless { ¬ (IsErrOf result RunStop.Input) → L.faults lines.new ≡ L.faults lines.old }
+    ensures reads_on { L.reads_on lines.old lines.new }
+{
+    let before = match targets.keep() {
+        Ok(kept) => kept,
+        Err(_) => return Err(RunStop::Memory),
+    };
+    let answer = run(alloc, c, units, targets, lines, steps);
+    settle(targets, before, &answer);
+    answer
+}
+
+/// Runs the command from its start, and leaves the targets as they then are.
+fn run<L: Lines>(
+    alloc: Global,
+    c: &Command,
+    units: &Units,
+    targets: &mut Targets,
+    lines: &mut L,
+    budget: u64,
+) -> Result<Ran, RunStop>
+    ensures ran { L.tells_unread → Comes result targets.new (L.unread lines.new) budget ((meaning units.now (MOST_DEPTH + 1)).acts (standing c.now) c.now.action (starting targets.old (lines_in (L.unread lines.old)) (L.unread lines.old).ends budget)) }
+    ensures memory { IfOk result (λ r. HasMemory r.outcome) }
+    ensures steps { IfOk result (λ r. r.steps ≤ budget) }
+    ensures bound { L.bound lines.new ≡ L.bound lines.old }
+    ensures taken { L.taken lines.old ≤ L.taken lines.new }
+    ensures long { IsErrOf result RunStop.Long → L.taken lines.new ≡ L.bound lines.new }
+    ensures input { IsErrOf result RunStop.Input → RoseByOne (L.faults lines.old) (L.faults lines.new) }
+    ensures faultless { ¬ (IsErrOf result RunStop.Input) → L.faults lines.new ≡ L.faults lines.old }
+    ensures reads_on { L.reads_on lines.old lines.new }
+{
+    let mut machine = match Machine::start(alloc, c) {
+        Ok(machine) => machine,
+        Err(_) => return Err(RunStop::Memory),
+    };
+    match drive(&mut machine, units, targets, lines, budget) {
+        Ok(outcome) => Ok(ended(machine, outcome)),
+        Err(stop) => Err(stop),
+    }
+}
+
+/// Takes one step after the other, until the run ends.
+fn drive<'a, L: Lines>(
+    machine: &mut Machine<'a>,
+    units: &'a Units,
+    targets: &mut Targets,
+    lines: &mut L,
+    budget: u64,
+) -> Result<Outcome, RunStop>
+    requires busy { IsBusy machine.old }
+    requires of { IsOf units.now machine.old }
+    requires steps { machine.old.steps ≤ budget }
+    ensures ends { L.tells_unread → Ends result (state_within machine.new targets.new (L.unread lines.new) budget) (pending units.now machine.old (state_within machine.old targets.old (L.unread lines.old) budget)) }
+    ensures memory { IfOk result HasMemory }
+    ensures steps { machine.new.steps ≤ budget }
+    ensures bound { L.bound lines.new ≡ L.bound lines.old }
+    ensures taken { L.taken lines.old ≤ L.taken lines.new }
+    ensures long { IsErrOf result RunStop.Long → L.taken lines.new ≡ L.bound lines.new }
+    ensures input { IsErrOf result RunStop.Input → RoseByOne (L.faults lines.old) (L.faults lines.new) }
+    ensures faultless { ¬ (IsErrOf result RunStop.Input) → L.faults lines.new ≡ L.faults lines.old }
+    ensures reads_on { L.reads_on lines.old lines.new }
+{
+    'turn: loop {
+        match machine.step(targets, units, lines, budget) {
+            Ok(Stepped::More) => {}
+            Ok(Stepped::End(outcome)) => return Ok(outcome),
+            Err(stop) => return Err(stop),
+        }
+    }
+}
+
+/// What a machine that has ended so leaves.
+fn ended(machine: Machine<'_>, outcome: Outcome) -> Ran
+    ensures outcome { result.outcome ≡ outcome }
+    ensures output { result.output ≡ machine.entry.run.output }
+    ensures steps { result.steps ≡ machine.entry.steps }
+{
+    let steps = machine.steps();
+    Ran {
+        outcome,
+        output: machine.into_output(),
+        steps,
+    }
+}
+
+/// The targets go back to those from before, unless the run came to its end.
+fn settle(targets: &mut Targets, before: Kept, answer: &Result<Ran, RunStop>)
+    ensures { targets.new ≡ settled answer.now before targets.old }
+{
+    match answer {
+        Ok(ran) => match ran.outcome {
+            Outcome::Done => {}
+            Outcome::Quit => {}
+            Outcome::Fault { line: _, fault: _ } => targets.back(before),
+            Outcome::Wrong { line: _ } => targets.back(before),
+        },
+        Err(_) => targets.back(before),
+    }
+}

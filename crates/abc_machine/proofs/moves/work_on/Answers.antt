@@ -1,0 +1,27 @@
+use Rattle.std.proofs.Common.{map}
+use Rattle.abc_acts.specs.Views.{scope_of}
+use Rattle.abc_pending.specs.Leads.{now}
+use Rattle.abc_pending.specs.Steps.{state_with}
+use Rattle.abc_pending.specs.Views.{frame_of, job_of, next_weight}
+use Rattle.abc_pending.specs.Weights.{job_weight}
+use Rattle.abc_machine.specs.Pending.{frames_weight}
+use Rattle.abc_machine.proofs.Falling.{lessens}
+use Rattle.abc_machine.proofs.Moving.{wanted_of, within_now}
+use Rattle.abc_machine.proofs.moves.work_on.Goals as goal
+
+pub returns-in-Ok-clause-within : goal.returns-in-Ok-clause-within
+returns-in-Ok-clause-within g c = λ h.
+    c.go_on.ensures.within c.args.units.now (scope_of c.args.scope.now) (scope_of c.begin.new.scope) c.in-Ok.ensures.scope
+    (c.in-Ok.ensures.within (within_now c.args.units.now (scope_of c.args.scope.now) (map frame_of c.args.frames.now) h)) h
+
+pub returns-in-Ok-clause-falls : goal.returns-in-Ok-clause-falls
+returns-in-Ok-clause-falls g c = λ h.
+    lessens c.args.units.now c.go_on.result (map frame_of c.go_on.new.frames) (frames_weight (map frame_of c.args.frames.now)) (next_weight c.in-Ok.next) c.begin.new.run.left (job_weight (job_of c.args.work.1)) c.args.run.now.left
+    c.go_on.ensures.weighs (c.in-Ok.ensures.falls (within_now c.args.units.now (scope_of c.args.scope.now) (map frame_of c.args.frames.now) h))
+
+pub returns-in-Err-Long-clause-leads : goal.returns-in-Err-Long-clause-leads
+returns-in-Err-Long-clause-leads g c = λ t.
+    wanted_of c.args.units.now (scope_of c.begin.new.scope) (scope_of c.args.scope.now) (map frame_of c.args.frames.now) c.in-Err-Long.field-0
+    (state_with c.begin.new.run c.begin.new.targets (g.L.Lines.unread c.args.lines.now)) (state_with c.begin.new.run c.begin.new.targets (g.L.Lines.unread c.begin.new.lines))
+    (now c.args.units.now (scope_of c.args.scope.now) c.args.work.0 (job_of c.args.work.1) (state_with c.args.run.now c.args.targets.now (g.L.Lines.unread c.args.lines.now)))
+    c.in-Err-Long.field-0-is (c.in-Err-Long.ensures.leads t)
