@@ -1,0 +1,2 @@
+-- Lemmas of lines that can be read.
+mod Fitting

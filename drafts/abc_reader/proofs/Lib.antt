@@ -1,0 +1,10 @@
+pub mod Asks
+mod Whole
+pub mod Steady
+mod Fit
+mod LineParts
+mod Pieces
+pub mod Started
+pub mod Feeding
+pub mod ReadingOn
+mod AskingRows

@@ -1,0 +1,12 @@
+pub mod Asks
+mod Whole
+pub mod Steady
+mod Fit
+mod LineParts
+mod Pieces
+pub mod Started
+pub mod Feeding
+pub mod ReadingOn
+mod RawLines
+mod FirstLines
+mod AskingRows

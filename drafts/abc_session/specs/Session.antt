@@ -1,0 +1,41 @@
+-- What comes of each item, and the session over an input.
+use Rattle.std.specs.Prelude.{ℕ, Bool, false, List, length, take, nat_lt}
+use Rattle.abc_num.specs.Lines.{raw_lines}
+use Rattle.abc_num.specs.declared.limits.TheConstants.{DEFAULT_STEPS}
+use Rattle.abc_num.specs.declared.lines.Line.{Line}
+use Rattle.abc_num.specs.declared.lines.RawLine.{RawLine}
+use Rattle.abc_journal.specs.declared.layout.Bounds.{Bounds}
+use Rattle.abc_turns.specs.Session.{Came, came, Session, session}
+use Rattle.abc_turns.specs.Steady.{IsSteady}
+use Rattle.abc_reader.specs.Items.{next_item}
+use Rattle.abc_store.specs.Commit.{Work}
+use Rattle.abc_outcome.specs.Outcome.{Outcome}
+use Rattle.abc_outcome.specs.Outcome as item
+
+-- what comes of item k, by its lines, with the steps that it may take
+abbrev pub outcome : Bounds → ℕ → Work → List Line → Outcome
+outcome bounds k work lines = item.outcome bounds DEFAULT_STEPS k work lines
+
+-- it takes no line but its own
+abbrev pub item_came : Bounds → Bool → ℕ → Work → List Line → List RawLine → Came Work RawLine
+item_came bounds ended k work lines left = came (outcome bounds k work lines).reply (outcome bounds k work lines).work left (outcome bounds k work lines).quits
+
+-- the session from item k on over these lines, behind which the input ends or goes on
+abbrev pub session_from : Bounds → Bool → ℕ → Work → List RawLine → Session Work
+session_from bounds ended k work lines = session next_item (item_came bounds) ended k work lines
+
+-- The lines of an input. An input as long as the bound, or longer, is cut there and has no end.
+abbrev pub lines_of : ℕ → List ℕ → List RawLine
+lines_of bound input = raw_lines (nat_lt (length input) bound) (take bound input)
+
+-- The session over an input. One as long as the bound on it, or longer, is cut there and has no end.
+abbrev pub session_of : Bounds → Work → List ℕ → Session Work
+session_of bounds start input = session_from bounds (nat_lt (length input) bounds.input) 1 start (lines_of bounds.input input)
+
+-- the session over the first bytes of an input that goes on
+abbrev pub front_session : Bounds → Work → List ℕ → Session Work
+front_session bounds start bytes = session_from bounds false 1 start (raw_lines false bytes)
+
+-- the items are steady, so all laws of sessions hold
+abbrev pub ItemsAreSteady : Type 0
+ItemsAreSteady = (bounds : Bounds) → IsSteady next_item (item_came bounds)
