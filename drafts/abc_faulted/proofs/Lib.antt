@@ -1,2 +1,0 @@
--- Lemmas of lines that can be read.
-mod Fitting

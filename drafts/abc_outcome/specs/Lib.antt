@@ -1,9 +1,0 @@
--- What comes of an item.
-pub mod Names
-pub mod Reply
-pub mod Reading
-pub mod Missing
-pub mod Outcome
-pub mod Answers
-pub mod Laws
-pub mod inner

@@ -1,8 +1,0 @@
-mod Saying
-mod Stops
-mod Broken
-mod Items
-mod Served
-mod Turns
-mod Places
-mod Runs
