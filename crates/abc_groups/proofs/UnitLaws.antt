@@ -1,5 +1,5 @@
 -- The graph of units that are in order: what it tells is what a search among the units finds.
-use Rattle.std.proofs.Common.{◌≡◌, ◌<◌, ◌+◌, ◌++◌, ℕ, zero, suc, List, [], ◌∷◌, length, take, Some, None, slice_get, if◌then◌else◌, refl, sym, ap, ◌∙◌, arith}
+use Rattle.std.proofs.Common.{◌≡◌, ◌<◌, ◌+◌, ◌++◌, ℕ, zero, suc, Bool, true, List, [], ◌∷◌, length, take, Option, Some, None, slice_get, if◌then◌else◌, refl, sym, ap, ◌∙◌, arith}
 use Rattle.std.specs.Prelude.{option_map, slice_index_or}
 use Rattle.std.specs.List.{AllByRecursion}
 use Rattle.std.specs.declared.cmp.Ordering.{Ordering}
@@ -8,14 +8,15 @@ use Rattle.std.specs.Ordering.{match_ordering, ordering_reverse}
 use Rattle.std.specs.Cmp.Lexicographic.{nat_list_cmp_total}
 use Rattle.std.proofs.lemmas.List.{map-append, take_more}
 use Rattle.std.proofs.lemmas.Option.{slice_get_within, get_or_from_slice_get}
+use Rattle.abc_num.specs.Text.{text_cmp, text_eq}
 use Rattle.abc_num.proofs.Parts.{each_weaker}
 use Rattle.abc_tree.specs.Calls.{called_upto}
 use Rattle.abc_tree.specs.Templates.{template_cmp, template_text}
-use Rattle.abc_tree.specs.Units.{AreRising, key, unit_of}
+use Rattle.abc_tree.specs.Units.{AreRising, key, unit_of, with_unit}
 use Rattle.abc_tree.specs.declared.commands.Unit.{Unit as Routine}
 use Rattle.abc_tree.specs.declared.templates.Template.{Template}
 use Rattle.abc_groups.specs.Program.{EachOnce, LAST_LINE, entry_of, entry_texts, graph_in, program_of, texts}
-use Rattle.abc_groups.proofs.Texts.{apart, eq_no, eq_yes, one_text}
+use Rattle.abc_groups.proofs.Texts.{apart, eq_no, eq_yes, itself, one_text}
 
 abbrev pub unit_calls : Routine → List (List ℕ)
 unit_calls u = texts (called_upto LAST_LINE u)
@@ -39,6 +40,46 @@ program_units (u ∷ us) t rising = by_order (template_cmp u.template t) refl (p
         let below : template_cmp t u.template ≡ Less = nat_list_cmp_total.antisymm (template_text t) (template_text u.template) ∙ ap ordering_reverse is in
         sym (not_this u us t (apart (template_text t) (template_text u.template) below)
         ∙ none_behind us t (each_weaker _ _ (λ v less. nat_list_cmp_total.trans (template_text t) (template_text u.template) (template_text v.template) below less) us rising.0))
+
+-- ---- with a unit that takes the place of one with its template
+
+told_here : (b : Bool) (u : Routine) (other : Option (List (List ℕ))) → b ≡ true → (if b then Some (unit_calls u) else other) ≡ Some (unit_calls u)
+told_here b u other e = ap (λ b. if b then Some (unit_calls u) else other) e
+
+this_first : (u : Routine) (us : List Routine) (t : Template) → template_text t ≡ template_text u.template → program_of (graph_in (u ∷ us)) (template_text t) ≡ Some (unit_calls u)
+this_first u us t e = told_here (text_eq (template_text t) (template_text u.template)) u (program_of (graph_in us) (template_text t)) (eq_yes (template_text t) (template_text u.template) e)
+
+-- the new one is found
+pub joined_new : (new : Routine) (units : List Routine) (t : Template) → template_cmp new.template t ≡ Equal → program_of (graph_in (with_unit new units)) (template_text t) ≡ Some (unit_calls new)
+joined_new new [] t is = this_first new [] t (sym (one_text (template_text new.template) (template_text t) is))
+joined_new new (u ∷ us) t is = by_order (template_cmp u.template new.template) refl (joined_new new us t is)
+  where
+    same : template_text t ≡ template_text new.template
+    same = sym (one_text (template_text new.template) (template_text t) is)
+
+    by_order : (o : Ordering) → template_cmp u.template new.template ≡ o → program_of (graph_in (with_unit new us)) (template_text t) ≡ Some (unit_calls new)
+        → program_of (graph_in (match_ordering o (u ∷ with_unit new us) (new ∷ us) (new ∷ u ∷ us))) (template_text t) ≡ Some (unit_calls new)
+    by_order Less e more = not_this u (with_unit new us) t (λ f. apart (template_text u.template) (template_text new.template) e (sym f ∙ same)) ∙ more
+    by_order Equal e more = this_first new us t same
+    by_order Greater e more = this_first new (u ∷ us) t same
+
+-- and what is found of the others stays
+pub joined_old : (new : Routine) (units : List Routine) (t : Template) → (template_cmp new.template t ≡ Equal → ⊥)
+    → program_of (graph_in (with_unit new units)) (template_text t) ≡ program_of (graph_in units) (template_text t)
+joined_old new units t other = by_list units
+  where
+    differs : template_text t ≡ template_text new.template → ⊥
+    differs e = other (ap (λ s. text_cmp s (template_text t)) (sym e) ∙ itself (template_text t))
+
+    by_list : (us : List Routine) → program_of (graph_in (with_unit new us)) (template_text t) ≡ program_of (graph_in us) (template_text t)
+    by_list [] = not_this new [] t differs
+    by_list (u ∷ us) = by_order (template_cmp u.template new.template) refl (by_list us)
+      where
+        by_order : (o : Ordering) → template_cmp u.template new.template ≡ o → program_of (graph_in (with_unit new us)) (template_text t) ≡ program_of (graph_in us) (template_text t)
+            → program_of (graph_in (match_ordering o (u ∷ with_unit new us) (new ∷ us) (new ∷ u ∷ us))) (template_text t) ≡ program_of (graph_in (u ∷ us)) (template_text t)
+        by_order Less e more = ap (λ p. if text_eq (template_text t) (template_text u.template) then Some (unit_calls u) else p) more
+        by_order Equal e more = not_this new us t differs ∙ sym (not_this u us t (λ f. differs (f ∙ one_text (template_text u.template) (template_text new.template) e)))
+        by_order Greater e more = not_this new (u ∷ us) t differs
 
 -- one entry more
 pub graph_more : (units : List Routine) (n : ℕ) (u : Routine) → slice_get units n ≡ Some u → graph_in (take n units) ++ entry_of u ∷ [] ≡ graph_in (take (n + 1) units)

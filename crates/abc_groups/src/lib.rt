@@ -14,5 +14,5 @@ mod sorted;
 
 pub use graph::{Calls, Templates, graph_of};
 pub use grouping::groups;
-pub use missing::{first_missing, first_missing_in};
+pub use missing::{first_missing, first_missing_in, first_missing_with};
 pub use reaching::{reach, reach_from};

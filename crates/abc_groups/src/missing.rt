@@ -1,15 +1,16 @@
 //! The least template without a unit among those that are reached.
 ghost use Rattle.std.specs.Prelude.{◌≡◌, ◌<◌, ◌+◌, length, IfOk, IfSome, IfNone};
 ghost use Rattle.abc_tree.specs.Templates.{template_text};
+ghost use Rattle.abc_tree.specs.Units.{with_unit};
 ghost use Rattle.abc_groups.specs.Program.{EachOnce, IsFirstMissing, NoneIsMissing, graph_in, program_of, texts};
 ghost use Rattle.abc_groups.specs.inner.Least.{IsLeast};
 
 use crate::Calls;
 use crate::explore::{Explored, explore};
 use crate::indexed::Indexed;
-use crate::program::Program;
+use crate::program::{Joined, Program};
 use abc_num::OutOfMemory;
-use abc_tree::{Template, Units};
+use abc_tree::{Template, Unit, Units};
 use std::alloc::Global;
 use std::cmp::Ordering;
 
@@ -85,4 +86,17 @@ pub fn first_missing_in(
     ensures none { IfOk result (λ answer. IfNone answer (NoneIsMissing (program_of (graph_in units.now)) (texts from.now))) }
 {
     first_missing_by(alloc, units, from)
+}
+
+/// The same over the units with a new one, which takes the place of one with its template.
+pub fn first_missing_with(
+    alloc: Global,
+    units: &Units,
+    new: &Unit,
+    from: &[Template],
+) -> Result<Option<Template>, OutOfMemory>
+    ensures some { IfOk result (λ answer. IfSome answer (λ t. IsFirstMissing (program_of (graph_in (with_unit new.now units.now))) (texts from.now) (template_text t))) }
+    ensures none { IfOk result (λ answer. IfNone answer (NoneIsMissing (program_of (graph_in (with_unit new.now units.now))) (texts from.now))) }
+{
+    first_missing_by(alloc, &Joined { units, new }, from)
 }

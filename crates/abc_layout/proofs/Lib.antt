@@ -1,4 +1,4 @@
 mod Fronts
 mod Splitting
 mod Feeding
-mod Whole
+pub mod Whole

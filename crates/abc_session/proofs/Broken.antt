@@ -4,9 +4,9 @@ use Rattle.std.proofs.lemmas.List.{append-nil}
 use Rattle.abc_outside.specs.Stop.{IsQuiet}
 use Rattle.abc_turns.specs.Session.{Session, replies, works}
 use Rattle.abc_turns.specs.Stops.{HasServed, IsBetween, IsBroken}
-use Rattle.abc_session.specs.Session.{Work}
-use Rattle.abc_session.specs.Serving.{OpensTo, Holds}
-use Rattle.abc_session.proofs.Opening.{opens_extended}
+use Rattle.abc_store.specs.Commit.{Work, Holds}
+use Rattle.abc_store.proofs.Images.{opens_extended}
+use Rattle.abc_session.specs.Serving.{OpensTo}
 
 -- where what was said is told
 pub told_served : {W : Type 0} (after : ℕ → W) (replies : List (List ℕ)) (after_left : ℕ → W) (left : List (List ℕ)) (tells_said : Type 0) (said said_later : List ℕ) → tells_said

@@ -1,32 +1,32 @@
 -- How a session goes on, and what the bytes taken settle.
-use Rattle.std.proofs.Common.{◌≡◌, ℕ, suc, ◌+◌, ◌-◌, ◌<◌, Bool, true, false, List, [], ◌∷◌, ◌++◌, length, take, refl, sym, ◌∙◌, ap, subst, arith, append_assoc, length-append, nat_lt, if◌then◌else◌}
+use Rattle.std.proofs.Common.{◌≡◌, ℕ, suc, ◌+◌, ◌-◌, ◌<◌, Bool, true, false, List, [], ◌∷◌, ◌++◌, length, take, refl, sym, ◌∙◌, ap, subst, arith, append_assoc, length-append, nat_lt, Some, None}
 use Rattle.std.specs.List.{concat}
 use Rattle.std.proofs.lemmas.List.{append-nil, map-append}
 use Rattle.std.proofs.lemmas.List.Folds.{concat-append}
-use Rattle.std.proofs.lemmas.Bool.{lt-ltb, le-ltb}
+use Rattle.std.proofs.lemmas.Bool.{le-ltb, ltb-true, false_from_ne_true}
 use Rattle.std.proofs.Math.Seq.{take-append-add}
+use Rattle.abc_num.specs.Lines.{raw_lines}
+use Rattle.abc_num.specs.declared.lines.Line.{Line}
+use Rattle.abc_num.specs.declared.lines.RawLine.{RawLine}
 use Rattle.abc_outside.specs.Outside.{Outside}
 use Rattle.abc_journal.specs.declared.layout.Bounds.{Bounds}
-use Rattle.abc_turns.specs.Session.{over, waiting, Turn, Session, ends, after_turns, replies_of, replies, output, work_after, works, last_work}
-use Rattle.abc_turns.specs.Steady.{IsUsed}
+use Rattle.abc_turns.specs.Session.{whole_item, Ending, over, quit, waiting, Turn, Session, ends, then_turn, after_turns, replies_of, replies, output, work_after, works, last_work}
 use Rattle.abc_turns.specs.Stops.{HasServed}
-use Rattle.abc_turns.proofs.Points.{all_said, last_after}
 use Rattle.abc_turns.proofs.Endings.{between_later}
-use Rattle.abc_turns.proofs.Using.{none_used, used_then, used_served, works_all, settled as settled_by}
-use Rattle.abc_session.specs.Lines.{is_blank}
-use Rattle.abc_session.specs.Session.{Work, outcome, next_item, item_came, session_from, session_of, front_session}
+use Rattle.abc_reader.specs.Asking.{Asked}
+use Rattle.abc_reader.specs.Items.{next_item}
+use Rattle.abc_reader.specs.Reading.{Reading, fresh, ends_at, lines_behind, lines_at, MayFollow, ReadLines, TookItem, WantsMore, AsksMore}
+use Rattle.abc_reader.proofs.Asks.{asked_weaker, asked_then}
+use Rattle.abc_reader.proofs.Feeding.{read_none, read_then}
+use Rattle.abc_store.specs.Commit.{Work}
+use Rattle.abc_session.specs.Session.{outcome, session_from, session_of, front_session}
 use Rattle.abc_session.specs.Serving.{OpensTo}
 use Rattle.abc_session.specs.Settled.{settled, AsksSettled, IsWaiting}
-use Rattle.abc_session.specs.Asking.{Asked}
 use Rattle.abc_session.specs.Run.{HasEnded}
-use Rattle.abc_session.specs.inner.Reading.{pending_of, UsesLines, WantsMore, AsksMore}
-use Rattle.abc_session.specs.inner.Place.{Place, start_place, place_at, ends_at, lines_at, session_at, WentOn}
-use Rattle.abc_session.specs.declared.reader.Reader.{Reader}
-use Rattle.abc_session.proofs.Asks.{asked_weaker, asked_then}
+use Rattle.abc_session.specs.inner.Place.{Place, start_place, place_at, input_ends, lines_left, session_at, WentOn, IsOver, Ended}
 use Rattle.abc_session.proofs.Broken.{told_served, idle_between}
-use Rattle.abc_session.proofs.Items.{steady, no_session, blank_line, item_line}
-use Rattle.abc_num.specs.Lines.{raw_lines}
-use Rattle.abc_num.specs.declared.lines.RawLine.{RawLine}
+use Rattle.abc_session.proofs.Items.{none_session, waiting_session, item_goes_on, item_quits}
+use Rattle.abc_session.proofs.Served.{after_both, work_both, served}
 
 -- the session from the start on is that of the whole input
 pub start_session : (bounds : Bounds) (work : Work) (old : Outside) → session_at bounds (start_place work bounds.input old) ≡ session_of bounds work old.left
@@ -36,124 +36,113 @@ start_session bounds work old =
     ap (λ n. session_from bounds (nat_lt n bounds.input) 1 work (raw_lines (nat_lt n bounds.input) (take (bounds.input - 0) old.left))) none
     ∙ ap (λ n. session_from bounds (nat_lt (length old.left) bounds.input) 1 work (raw_lines (nat_lt (length old.left) bounds.input) (take n old.left))) all
 
--- no line was used yet
-pub uses_none : (pending left : List ℕ) (taken : ℕ) → UsesLines pending left taken pending left taken []
-uses_none pending left taken = record { bytes = []; cut = λ ends more. refl; split = refl; count = omega arith }
-
--- lines, and then further ones
-pub uses_then : (pending left : List ℕ) (taken : ℕ) (pending_mid left_mid : List ℕ) (taken_mid : ℕ) (pending_new left_new : List ℕ) (taken_new : ℕ) (lines more : List RawLine)
-    → UsesLines pending left taken pending_mid left_mid taken_mid lines → UsesLines pending_mid left_mid taken_mid pending_new left_new taken_new more
-    → UsesLines pending left taken pending_new left_new taken_new (lines ++ more)
-uses_then pending left taken pending_mid left_mid taken_mid pending_new left_new taken_new lines more p q = record {
-  bytes = p.bytes ++ q.bytes;
-  cut = λ ends rest. ap (raw_lines ends) (append_assoc p.bytes q.bytes rest) ∙ p.cut ends (q.bytes ++ rest) ∙ ap (λ ls. lines ++ ls) (q.cut ends rest) ∙ sym (append_assoc lines more (raw_lines ends rest));
-  split = p.split ∙ ap (λ (l : List ℕ). p.bytes ++ l) q.split ∙ sym (append_assoc p.bytes q.bytes (pending_new ++ left_new));
-  count = omega (arith, p.count, q.count, length-append p.bytes q.bytes);
-}
-
 module _ (bounds : Bounds) (tells_said : Type 0) where
   pub went_none : (place : Place) → WentOn bounds tells_said place place
   went_none place = record {
     lines = [];
     turns = [];
-    used = none_used next_item (item_came bounds) (suc place.served) place.work;
+    were_read = read_none place.reading place.left;
+    goes = λ ended rest follows. ap (λ ls. session_from bounds ended (suc place.served) place.work (ls ++ rest)) (append-nil place.reading.ahead);
+    work_is = refl;
     number = omega arith;
     said_is = λ told. sym (append-nil place.said);
-    split = refl;
-    ends = refl;
-    bytes = λ going. uses_none place.pending place.left place.taken;
   }
 
   -- a session that begins with a reader that has taken nothing
-  pub begins : (work : Work) (most : ℕ) (old : Outside) (reader : Reader) → pending_of reader ≡ [] → reader.taken ≡ 0 → reader.bound ≡ most → reader.ended ≡ false
-      → WentOn bounds tells_said (start_place work most old) (place_at 0 work reader old)
-  begins work most old reader none fresh within going =
-      let same : start_place work most old ≡ place_at 0 work reader old =
-      λ i. record { served = 0; work = work; said = old.said; pending = sym none i; left = old.left; taken = sym fresh i; bound = sym within i; ended = sym going i } in
-      subst (λ place. WentOn bounds tells_said (start_place work most old) place) same (went_none (start_place work most old))
+  pub begins : (work : Work) (most : ℕ) (old : Outside) (reader : Reading) → reader ≡ fresh most → WentOn bounds tells_said (start_place work most old) (place_at 0 work reader old)
+  begins work most old reader is = subst (λ r. WentOn bounds tells_said (start_place work most old) (place_at 0 work r old)) (sym is) (went_none (start_place work most old))
 
-  pub went_then : (old mid new : Place) → WentOn bounds tells_said old mid → WentOn bounds tells_said mid new → (new.ended ≡ false → mid.ended ≡ false) → WentOn bounds tells_said old new
-  went_then old mid new p q going =
-      let n : suc mid.served ≡ suc old.served + length p.turns = omega (arith, p.number) in
+  pub went_then : (old mid new : Place) → WentOn bounds tells_said old mid → WentOn bounds tells_said mid new → (mid.reading.ended ≡ true → new.reading.ended ≡ true) → WentOn bounds tells_said old new
+  went_then old mid new p q stays =
+      let going : new.reading.ended ≡ false → mid.reading.ended ≡ false = λ at_last. false_from_ne_true mid.reading.ended (λ is. absurd (cc (stays is, at_last))) in
       record {
         lines = p.lines ++ q.lines;
         turns = p.turns ++ q.turns;
-        used = used_then next_item (item_came bounds) (suc old.served) old.work mid.work new.work p.lines q.lines p.turns q.turns p.used
-            (subst (λ k. IsUsed next_item (item_came bounds) k mid.work q.lines q.turns new.work) n q.used);
+        were_read = read_then old.reading mid.reading new.reading old.left mid.left new.left p.lines q.lines going p.were_read q.were_read;
+        goes = λ ended rest follows.
+            let all : (old.reading.ahead ++ (p.lines ++ q.lines)) ++ rest ≡ (old.reading.ahead ++ p.lines) ++ (q.lines ++ rest) =
+            ap (λ ls. ls ++ rest) (sym (append_assoc old.reading.ahead p.lines q.lines)) ∙ append_assoc (old.reading.ahead ++ p.lines) q.lines rest in
+            let follows_mid : MayFollow mid.reading mid.left ended (q.lines ++ rest) =
+            λ is. ((follows (stays is)).0 ∙ q.were_read.ends, ap (λ ls. q.lines ++ ls) (follows (stays is)).1 ∙ sym q.were_read.split) in
+            ap (λ ls. session_from bounds ended (suc old.served) old.work ls) all ∙ p.goes ended (q.lines ++ rest) follows_mid
+            ∙ ap (λ ls. after_turns p.turns (session_from bounds ended (suc mid.served) mid.work ls)) (sym (append_assoc mid.reading.ahead q.lines rest))
+            ∙ ap (after_turns p.turns) (q.goes ended rest follows) ∙ after_both p.turns q.turns (session_from bounds ended (suc new.served) new.work (new.reading.ahead ++ rest));
+        work_is = q.work_is ∙ ap (λ w. work_after w q.turns) p.work_is ∙ sym (work_both old.work p.turns q.turns);
         number = omega (arith, p.number, q.number, length-append p.turns q.turns);
         said_is = λ told. q.said_is told ∙ ap (λ (l : List ℕ). l ++ concat (replies_of q.turns)) (p.said_is told) ∙ append_assoc old.said (concat (replies_of p.turns)) (concat (replies_of q.turns))
             ∙ ap (λ (l : List ℕ). old.said ++ l) (sym (concat-append (replies_of p.turns) (replies_of q.turns)) ∙ ap concat (sym (map-append (λ (t : Turn Work). t.reply) p.turns q.turns)));
-        split = p.split ∙ ap (λ ls. p.lines ++ ls) q.split ∙ sym (append_assoc p.lines q.lines (lines_at new));
-        ends = q.ends ∙ p.ends;
-        bytes = λ at_last. uses_then old.pending old.left old.taken mid.pending mid.left mid.taken new.pending new.left new.taken p.lines q.lines (p.bytes (going at_last)) (q.bytes at_last);
       }
 
   module _ (old new : Place) (went : WentOn bounds tells_said old new) where
+    pub went_session : session_at bounds old ≡ after_turns went.turns (session_at bounds new)
+    went_session =
+        ap (λ ls. session_from bounds (input_ends old) (suc old.served) old.work (old.reading.ahead ++ ls)) went.were_read.split
+        ∙ ap (λ ls. session_from bounds (input_ends old) (suc old.served) old.work ls) (sym (append_assoc old.reading.ahead went.lines (lines_behind new.reading new.left)))
+        ∙ ap (λ e. session_from bounds e (suc old.served) old.work ((old.reading.ahead ++ went.lines) ++ lines_behind new.reading new.left)) (sym went.were_read.ends)
+        ∙ went.goes (input_ends new) (lines_behind new.reading new.left) (λ _. (refl, refl))
+
     -- the items between were served, and the rest is left
     pub went_served : HasServed (works old.work (session_at bounds old)) (replies (session_at bounds old)) (works new.work (session_at bounds new)) (replies (session_at bounds new)) tells_said old.said new.said
-    went_served =
-        let n : suc old.served + length went.turns ≡ suc new.served = omega (arith, went.number) in
-        let whole : session_from bounds (ends_at new) (suc old.served) old.work (went.lines ++ lines_at new) ≡ session_at bounds old =
-        ap (λ ls. session_from bounds (ends_at new) (suc old.served) old.work ls) (sym went.split) ∙ ap (λ e. session_from bounds e (suc old.served) old.work (lines_at old)) went.ends in
-        let rest : session_from bounds (ends_at new) (suc old.served + length went.turns) new.work (lines_at new) ≡ session_at bounds new = ap (λ k. session_from bounds (ends_at new) k new.work (lines_at new)) n in
-        subst (λ s. HasServed (works old.work s) (replies s) (works new.work (session_at bounds new)) (replies (session_at bounds new)) tells_said old.said new.said) whole
-        (subst (λ s. HasServed (works old.work (session_from bounds (ends_at new) (suc old.served) old.work (went.lines ++ lines_at new))) (replies (session_from bounds (ends_at new) (suc old.served) old.work (went.lines ++ lines_at new)))
-        (works new.work s) (replies s) tells_said old.said new.said) rest
-        (used_served next_item (item_came bounds) (suc old.served) old.work new.work went.lines went.turns went.used (ends_at new) (lines_at new) tells_said old.said new.said went.said_is))
+    went_served = served old.work new.work went.turns (session_at bounds old) (session_at bounds new) went_session went.work_is tells_said old.said new.said went.said_is
 
-    pub none_left : lines_at new ≡ [] → replies (session_at bounds new) ≡ []
-    none_left none =
-        ap (λ ls. replies (session_from bounds (ends_at new) (suc new.served) new.work ls)) none ∙ ap replies (no_session bounds (ends_at new) (suc new.served) new.work)
+-- An item was taken: it is the next of the lines that were left.
+pub first_item : (old new : Reading) (left left_new : List ℕ) (item : List Line) → TookItem old left new left_new (Some item) → next_item (ends_at old left) (lines_at old left) ≡ whole_item item (lines_at new left_new)
+first_item old new left left_new item took =
+    ap (λ ls. next_item (ends_at old left) (old.ahead ++ ls)) took.were_read.split ∙ ap (next_item (ends_at old left)) (sym (append_assoc old.ahead took.lines (lines_behind new left_new)))
+    ∙ ap (λ e. next_item e ((old.ahead ++ took.lines) ++ lines_behind new left_new)) (sym took.were_read.ends) ∙ took.begins (ends_at new left_new) (lines_behind new left_new) (λ _. (refl, refl))
 
-    -- a session without further lines is over, or it waits
-    pub ending_is : lines_at new ≡ [] → (e : Bool) → ends_at new ≡ e → (session_at bounds old).ending ≡ (ends {W = Work} (if e then over else waiting)).ending
-    ending_is none e is =
-        let n : suc old.served + length went.turns ≡ suc new.served = omega (arith, went.number) in
-        ap (λ b. (session_from bounds b (suc old.served) old.work (lines_at old)).ending) (sym went.ends ∙ is)
-        ∙ ap (λ ls. (session_from bounds e (suc old.served) old.work ls).ending) (went.split ∙ ap (λ ls. went.lines ++ ls) none) ∙ ap (λ (s : Session Work). s.ending) (went.used.goes e [])
-        ∙ ap (λ (s : Session Work). s.ending) (no_session bounds e (suc old.served + length went.turns) new.work)
+-- a session that served one item more
+module _ (bounds : Bounds) (tells_said : Type 0) (old new : Place) (item : List Line) (took : TookItem old.reading old.left new.reading new.left (Some item))
+    (number : new.served ≡ suc old.served) (kept : new.work ≡ (outcome bounds (suc old.served) old.work item).work) (said : tells_said → new.said ≡ old.said ++ (outcome bounds (suc old.served) old.work item).reply) where
+  abbrev turn : Turn Work
+  turn = record { reply = (outcome bounds (suc old.served) old.work item).reply; work = (outcome bounds (suc old.served) old.work item).work }
 
--- a session that reads on from a place has served one line more: a blank one, or an item
-module _ (bounds : Bounds) (tells_said : Type 0) (old new : Place) (line : RawLine) (split : lines_at old ≡ line ∷ lines_at new) (ends : ends_at new ≡ ends_at old)
-    (bytes : new.ended ≡ false → UsesLines old.pending old.left old.taken new.pending new.left new.taken (line ∷ [])) where
-  pub past_blank : is_blank line ≡ true → new.served ≡ old.served → new.work ≡ old.work → new.said ≡ old.said → WentOn bounds tells_said old new
-  past_blank blank number same said = record {
-    lines = line ∷ [];
-    turns = [];
-    used = subst (λ w. IsUsed next_item (item_came bounds) (suc old.served) old.work (line ∷ []) [] w) (sym same) (blank_line bounds (suc old.served) old.work line blank);
+  said_then : tells_said → new.said ≡ old.said ++ concat (replies_of (turn ∷ []))
+  said_then told = said told ∙ ap (λ (l : List ℕ). old.said ++ l) (sym (append-nil turn.reply))
+
+  -- and goes on
+  pub past_item : (outcome bounds (suc old.served) old.work item).quits ≡ false → WentOn bounds tells_said old new
+  past_item on = record {
+    lines = took.lines;
+    turns = turn ∷ [];
+    were_read = took.were_read;
+    goes = λ ended rest follows.
+        item_goes_on bounds ended (suc old.served) old.work ((old.reading.ahead ++ took.lines) ++ rest) item (new.reading.ahead ++ rest) (took.begins ended rest follows) on
+        ∙ ap (λ n. then_turn turn.reply turn.work (session_from bounds ended (suc n) turn.work (new.reading.ahead ++ rest))) (sym number)
+        ∙ ap (λ w. then_turn turn.reply turn.work (session_from bounds ended (suc new.served) w (new.reading.ahead ++ rest))) (sym kept);
+    work_is = kept;
     number = omega (arith, number);
-    said_is = λ told. said ∙ sym (append-nil old.said);
-    split = split;
-    ends = ends;
-    bytes = bytes;
+    said_is = said_then;
   }
 
-  pub past_item : is_blank line ≡ false → new.served ≡ suc old.served → new.work ≡ (outcome bounds (suc old.served) old.work line).work → (tells_said → new.said ≡ old.said ++ (outcome bounds (suc old.served) old.work line).reply)
-      → WentOn bounds tells_said old new
-  past_item some number kept said = record {
-    lines = line ∷ [];
-    turns = record { reply = (outcome bounds (suc old.served) old.work line).reply; work = (outcome bounds (suc old.served) old.work line).work } ∷ [];
-    used = subst (λ w. IsUsed next_item (item_came bounds) (suc old.served) old.work (line ∷ []) (record { reply = (outcome bounds (suc old.served) old.work line).reply; work = (outcome bounds (suc old.served) old.work line).work } ∷ []) w) (sym kept)
-        (item_line bounds (suc old.served) old.work line some);
-    number = omega (arith, number);
-    said_is = λ told. said told ∙ ap (λ (l : List ℕ). old.said ++ l) (sym (append-nil (outcome bounds (suc old.served) old.work line).reply));
-    split = split;
-    ends = ends;
-    bytes = bytes;
+  -- and ends with it
+  pub past_quit : (outcome bounds (suc old.served) old.work item).quits ≡ true → Ended bounds tells_said old new
+  past_quit off = record {
+    turns = turn ∷ [];
+    ending = quit;
+    is = item_quits bounds (input_ends old) (suc old.served) old.work (lines_left old) item (lines_left new) (first_item old.reading new.reading old.left new.left item took) off;
+    work_is = kept;
+    said_is = said_then;
+    is_over = tt;
   }
 
--- a line is found to be missing
-pub past_end : (bounds : Bounds) (tells_said : Type 0) (old new : Place) → lines_at old ≡ [] → lines_at new ≡ [] → ends_at new ≡ ends_at old → new.ended ≡ true → new.served ≡ old.served → new.work ≡ old.work → new.said ≡ old.said → WentOn bounds tells_said old new
-past_end bounds tells_said old new none none_new ends ended number same said = record {
-  lines = [];
-  turns = [];
-  used = subst (λ w. IsUsed next_item (item_came bounds) (suc old.served) old.work [] [] w) (sym same) (none_used next_item (item_came bounds) (suc old.served) old.work);
-  number = omega (arith, number);
-  said_is = λ told. said ∙ sym (append-nil old.said);
-  split = none ∙ sym none_new;
-  ends = ends;
-  bytes = λ going. absurd (cc (ended, going));
-}
+-- there is no further item
+pub past_end : (bounds : Bounds) (tells_said : Type 0) (old new : Place) → TookItem old.reading old.left new.reading new.left None → (new.reading.ended ≡ true → new.left ≡ []) → new.work ≡ old.work → new.said ≡ old.said
+    → Ended bounds tells_said old new
+past_end bounds tells_said old new took at_end same said =
+    let none = took.begins in
+    let lines : lines_left old ≡ old.reading.ahead ++ took.lines =
+    ap (λ ls. old.reading.ahead ++ ls) (took.were_read.split ∙ ap (λ ls. took.lines ++ ls) none.2 ∙ append-nil took.lines) in
+    let ends_so : input_ends old ≡ true = sym took.were_read.ends ∙ none.4 in
+    record {
+      turns = [];
+      ending = over;
+      is = ap (λ ls. session_from bounds (input_ends old) (suc old.served) old.work ls) lines ∙ ap (λ e. session_from bounds e (suc old.served) old.work (old.reading.ahead ++ took.lines)) ends_so
+          ∙ none_session bounds true (suc old.served) old.work (old.reading.ahead ++ took.lines) none.0;
+      work_is = same;
+      said_is = λ told. said ∙ sym (append-nil old.said);
+      is_over = (at_end none.3, none.4);
+    }
 
 -- the items up to a place were served, and those from there on are left
 pub went_on : (bounds : Bounds) (start : Work) (first : Outside) (tells_said : Type 0) (place : Place) → WentOn bounds tells_said (start_place start bounds.input first) place
@@ -163,31 +152,34 @@ went_on bounds start first tells_said place went =
     (went_served bounds tells_said (start_place start bounds.input first) place went)
 
 -- Reads and waits, of a session that went on from its start to a place where the input has not ended.
-module _ (bounds : Bounds) (start : Work) (first : Outside) (tells_said : Type 0) (place : Place) (went : WentOn bounds tells_said (start_place start bounds.input first) place) (going : place.ended ≡ false) where
-  -- the bytes that were taken then, where no whole line is in hand
-  settled_then : (n : ℕ) → WantsMore place.pending place.left place.taken n → front_session bounds start (take n first.left) ≡ after_turns went.turns (ends waiting)
+module _ (bounds : Bounds) (start : Work) (first : Outside) (tells_said : Type 0) (place : Place) (went : WentOn bounds tells_said (start_place start bounds.input first) place) (going : place.reading.ended ≡ false) where
+  -- the bytes that were taken then, where no whole item is in hand
+  settled_then : (n : ℕ) → WantsMore place.reading place.left n → front_session bounds start (take n first.left) ≡ after_turns went.turns (ends waiting)
   settled_then n wants =
+      let r = place.reading in
       let more = wants.0 in
-      let uses = went.bytes going in
-      let e : n ≡ length uses.bytes + (length place.pending + more) = omega (arith, wants.1, uses.count) in
-      let front : take n first.left ≡ uses.bytes ++ (place.pending ++ take more place.left) =
-      ap (λ k. take k first.left) e ∙ ap (λ (l : List ℕ). take (length uses.bytes + (length place.pending + more)) l) uses.split
-      ∙ take-append-add uses.bytes (place.pending ++ place.left) (length place.pending + more) ∙ ap (λ (l : List ℕ). uses.bytes ++ l) (take-append-add place.pending place.left more) in
+      let uses = went.were_read.bytes going in
+      let e : n ≡ length uses.bytes + (length r.pending + more) = omega (arith, wants.1, uses.count) in
+      let front : take n first.left ≡ uses.bytes ++ (r.pending ++ take more place.left) =
+      ap (λ k. take k first.left) e ∙ ap (λ (l : List ℕ). take (length uses.bytes + (length r.pending + more)) l) uses.split
+      ∙ take-append-add uses.bytes (r.pending ++ place.left) (length r.pending + more) ∙ ap (λ (l : List ℕ). uses.bytes ++ l) (take-append-add r.pending place.left more) in
+      let behind = raw_lines false (r.pending ++ take more place.left) in
       ap (λ (l : List ℕ). session_from bounds false 1 start (raw_lines false l)) front
-      ∙ ap (λ ls. session_from bounds false 1 start ls) (uses.cut false (place.pending ++ take more place.left) ∙ ap (λ ls. went.lines ++ ls) wants.3 ∙ append-nil went.lines)
-      ∙ settled_by next_item (item_came bounds) 1 start place.work went.lines went.turns went.used (steady bounds)
+      ∙ ap (λ ls. session_from bounds false 1 start ls) (uses.cut false (r.pending ++ take more place.left))
+      ∙ went.goes false behind (λ is. absurd (cc (is, going)))
+      ∙ ap (after_turns went.turns) (waiting_session bounds false (suc place.served) place.work (r.ahead ++ behind) wants.3)
 
-  settles : (n : ℕ) → WantsMore place.pending place.left place.taken n → settled bounds start (take n first.left) ≡ concat (replies_of went.turns)
+  settles : (n : ℕ) → WantsMore place.reading place.left n → settled bounds start (take n first.left) ≡ concat (replies_of went.turns)
   settles n wants = ap output (settled_then n wants) ∙ ap (λ ts. concat (replies_of ts)) (append-nil went.turns)
 
   -- each read is one at which all was said that is settled
-  pub asks_settled : (a b : List (ℕ × ℕ)) → tells_said → Asked (AsksMore place.pending place.left place.taken (length place.said)) a b → Asked (AsksSettled bounds start first.left (length first.said)) a b
+  pub asks_settled : (a b : List (ℕ × ℕ)) → tells_said → Asked (AsksMore place.reading place.left (length place.said)) a b → Asked (AsksSettled bounds start first.left (length first.said)) a b
   asks_settled a b told asked =
-      asked_weaker (AsksMore place.pending place.left place.taken (length place.said)) (AsksSettled bounds start first.left (length first.said)) a b
+      asked_weaker (AsksMore place.reading place.left (length place.said)) (AsksSettled bounds start first.left (length first.said)) a b
       (λ x ask. ask.1 ∙ ap length (went.said_is told) ∙ length-append first.said (concat (replies_of went.turns)) ∙ ap (λ (l : List ℕ). length first.said + length l) (sym (settles x.0 ask.0))) asked
 
   -- a session that stops for want of input
-  pub waits : (new : Outside) (stops : List ℕ → List ℕ → Type 0) → tells_said → WantsMore place.pending place.left place.taken new.taken → new.said ≡ place.said → ((c s : List ℕ) → stops c s → OpensTo c place.work)
+  pub waits : (new : Outside) (stops : List ℕ → List ℕ → Type 0) → tells_said → WantsMore place.reading place.left new.taken → new.said ≡ place.said → ((c s : List ℕ) → stops c s → OpensTo c place.work)
       → IsWaiting bounds start first.left first.said new stops
   waits new stops told wants same opens =
       record {
@@ -197,48 +189,61 @@ module _ (bounds : Bounds) (start : Work) (first : Outside) (tells_said : Type 0
             (idle_between place.work (session_at bounds place) place.said new.said stops same opens);
         settled_is = same ∙ went.said_is told ∙ ap (λ (l : List ℕ). first.said ++ l) (sym (settles new.taken wants));
         image = λ c s stop. subst (λ w. OpensTo c w)
-            (went.used.work_is ∙ sym (ap (work_after start) (append-nil went.turns)) ∙ ap (last_work start) (sym (settled_then new.taken wants))) (opens c s stop);
+            (went.work_is ∙ sym (ap (work_after start) (append-nil went.turns)) ∙ ap (last_work start) (sym (settled_then new.taken wants))) (opens c s stop);
       }
 
 -- Each read of one turn more is one at which all was said that is settled. After the end of the input there is none.
 pub turn_asks : (bounds : Bounds) (start : Work) (first : Outside) (tells_said : Type 0) (place : Place) (a b c : List (ℕ × ℕ)) → tells_said
-    → WentOn bounds tells_said (start_place start bounds.input first) place → (place.ended ≡ true → c ≡ b)
-    → Asked (AsksMore place.pending place.left place.taken (length place.said)) b c → Asked (AsksSettled bounds start first.left (length first.said)) a b → Asked (AsksSettled bounds start first.left (length first.said)) a c
-turn_asks bounds start first tells_said place a b c told went ended asks so_far = by_end place.ended refl
+    → WentOn bounds tells_said (start_place start bounds.input first) place → (place.reading.ended ≡ true → c ≡ b)
+    → Asked (AsksMore place.reading place.left (length place.said)) b c → Asked (AsksSettled bounds start first.left (length first.said)) a b → Asked (AsksSettled bounds start first.left (length first.said)) a c
+turn_asks bounds start first tells_said place a b c told went ended asks so_far = by_end place.reading.ended refl
   where
-    by_end : (e : Bool) → place.ended ≡ e → Asked (AsksSettled bounds start first.left (length first.said)) a c
+    by_end : (e : Bool) → place.reading.ended ≡ e → Asked (AsksSettled bounds start first.left (length first.said)) a c
     by_end true is = subst (λ (l : List (ℕ × ℕ)). Asked (AsksSettled bounds start first.left (length first.said)) a l) (sym (ended is)) so_far
     by_end false is = asked_then (AsksSettled bounds start first.left (length first.said)) a b c so_far (asks_settled bounds start first tells_said place went is b c told asks)
 
--- What a session has done that went on from its start to a place without further lines.
-module _ (bounds : Bounds) (start : Work) (first : Outside) (tells_said : Type 0) (place : Place) (went : WentOn bounds tells_said (start_place start bounds.input first) place) where
+-- What a session has done that went on from its start to a place, and from there to its end.
+module _ (bounds : Bounds) (start : Work) (first : Outside) (tells_said : Type 0) (place last : Place) (went : WentOn bounds tells_said (start_place start bounds.input first) place) (ended : Ended bounds tells_said place last) where
   abbrev whole : Session Work
   whole = session_of bounds start first.left
 
-  served_all : lines_at place ≡ [] → HasServed (works start whole) (replies whole) (works place.work (session_at bounds place)) [] tells_said first.said place.said
-  served_all none =
-      subst (λ rs. HasServed (works start whole) (replies whole) (works place.work (session_at bounds place)) rs tells_said first.said place.said)
-      (none_left bounds tells_said (start_place start bounds.input first) place went none) (went_on bounds start first tells_said place went)
+  whole_is : whole ≡ after_turns (went.turns ++ ended.turns) (ends ended.ending)
+  whole_is =
+      sym (start_session bounds start first) ∙ went_session bounds tells_said (start_place start bounds.input first) place went ∙ ap (after_turns went.turns) ended.is
+      ∙ after_both went.turns ended.turns (ends ended.ending)
 
-  pub said_all : lines_at place ≡ [] → tells_said → place.said ≡ first.said ++ output whole
-  said_all none told = all_said _ _ _ _ _ _ (served_all none) told
+  turns_are : whole.turns ≡ went.turns ++ ended.turns
+  turns_are = ap (λ (s : Session Work). s.turns) whole_is ∙ append-nil (went.turns ++ ended.turns)
 
-  pub kept_all : lines_at place ≡ [] → place.work ≡ last_work start whole
-  kept_all none =
-      last_after _ _ _ _ _ _ (served_all none) ∙ works_all start whole
+  pub said_all : tells_said → last.said ≡ first.said ++ output whole
+  said_all told =
+      ended.said_is told ∙ ap (λ (l : List ℕ). l ++ concat (replies_of ended.turns)) (went.said_is told) ∙ append_assoc first.said (concat (replies_of went.turns)) (concat (replies_of ended.turns))
+      ∙ ap (λ (l : List ℕ). first.said ++ l) (sym (concat-append (replies_of went.turns) (replies_of ended.turns)) ∙ ap concat (sym (map-append (λ (t : Turn Work). t.reply) went.turns ended.turns)))
+      ∙ ap (λ ts. first.said ++ concat (replies_of ts)) (sym turns_are)
 
-  -- its input has ended before the bounds
-  pub ended_all : (new : Outside) → lines_at place ≡ [] → new.left ≡ [] → place.left ≡ new.left → place.taken < place.bound → place.bound ≡ bounds.input → place.taken + length place.left ≡ length first.left → HasEnded whole.ending bounds.input first new
-  ended_all new none read same before same_bound total =
-      let long : length place.left ≡ 0 = ap length (same ∙ read) in
-      let e : ends_at place ≡ true = lt-ltb (place.taken + length place.left) place.bound (omega (arith, before, long)) in
-      let over_is : whole.ending ≡ over = ap (λ (s : Session Work). s.ending) (sym (start_session bounds start first)) ∙ ending_is bounds tells_said (start_place start bounds.input first) place went none true e in
-      subst (λ x. HasEnded x bounds.input first new) (sym over_is) (read, omega (arith, before, long, same_bound, total))
+  pub kept_all : last.work ≡ last_work start whole
+  kept_all = ended.work_is ∙ ap (λ w. work_after w ended.turns) went.work_is ∙ sym (work_both start went.turns ended.turns) ∙ ap (work_after start) (sym turns_are)
 
-  -- its bounds is reached, and no whole line is in hand
-  pub waits_on : (n : ℕ) → WantsMore place.pending place.left place.taken n → n ≡ place.bound → whole.ending ≡ waiting
-  waits_on n wants reached =
-      let e : ends_at place ≡ false = le-ltb (place.taken + length place.left) place.bound (omega (arith, wants.1, wants.2, reached)) in
-      let room : place.bound - place.taken ≡ wants.0 = omega (arith, wants.1, reached) in
-      let none : lines_at place ≡ [] = ap (λ b. raw_lines b (place.pending ++ take (place.bound - place.taken) place.left)) e ∙ ap (λ k. raw_lines false (place.pending ++ take k place.left)) room ∙ wants.3 in
-      ap (λ (s : Session Work). s.ending) (sym (start_session bounds start first)) ∙ ending_is bounds tells_said (start_place start bounds.input first) place went none false e
+  -- its input has ended before the bound, or an item quits
+  pub ended_all : (new : Outside) → last.left ≡ new.left → last.reading.bound ≡ bounds.input → last.reading.taken + length last.left ≡ length first.left → HasEnded whole.ending bounds.input first new
+  ended_all new same same_bound total = subst (λ x. HasEnded x bounds.input first new) (sym (ap (λ (s : Session Work). s.ending) whole_is)) (by_ending ended.ending ended.is_over)
+    where
+      by_ending : (ending : Ending) → IsOver ending last → HasEnded ending bounds.input first new
+      by_ending over is =
+          let before = ltb-true (last.reading.taken + length last.left) last.reading.bound is.1 in
+          (sym same ∙ is.0, omega (arith, before, same_bound, total))
+      by_ending quit is = tt
+      by_ending waiting is = is
+
+-- the bound is reached, and no whole item is in hand
+pub waits_on : (bounds : Bounds) (start : Work) (first : Outside) (tells_said : Type 0) (place : Place) → WentOn bounds tells_said (start_place start bounds.input first) place
+    → (n : ℕ) → WantsMore place.reading place.left n → n ≡ place.reading.bound → (session_of bounds start first.left).ending ≡ waiting
+waits_on bounds start first tells_said place went n wants reached =
+    let r = place.reading in
+    let e : input_ends place ≡ false = le-ltb (r.taken + length place.left) r.bound (omega (arith, wants.1, wants.2, reached)) in
+    let room : r.bound - r.taken ≡ wants.0 = omega (arith, wants.1, reached) in
+    let here : session_at bounds place ≡ ends waiting =
+    ap (λ b. session_from bounds b (suc place.served) place.work (r.ahead ++ raw_lines b (r.pending ++ take (r.bound - r.taken) place.left))) e
+    ∙ ap (λ k. session_from bounds false (suc place.served) place.work (r.ahead ++ raw_lines false (r.pending ++ take k place.left))) room
+    ∙ waiting_session bounds false (suc place.served) place.work (r.ahead ++ raw_lines false (r.pending ++ take wants.0 place.left)) wants.3 in
+    ap (λ (s : Session Work). s.ending) (sym (start_session bounds start first) ∙ went_session bounds tells_said (start_place start bounds.input first) place went ∙ ap (after_turns went.turns) here)

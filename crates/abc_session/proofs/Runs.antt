@@ -1,6 +1,6 @@
 -- A run on a store: its opening, and its session.
-use Rattle.std.proofs.Common.{◌≡◌, ◌≤◌, ℕ, List, length, inl, inr, ⊎_elim, sym, ◌∙◌, ap, subst, arith}
-use Rattle.std.specs.Prelude.{Ok}
+use Rattle.std.proofs.Common.{◌≡◌, ◌≤◌, ℕ, List, ◌++◌, length, inl, inr, ⊎_elim, sym, ◌∙◌, ap, subst, arith}
+use Rattle.std.specs.Prelude.{Result, Ok, Err}
 use Rattle.abc_outside.specs.Outside.{Outside}
 use Rattle.abc_outside.specs.Stop.{Leaves, Passes, Extends}
 use Rattle.abc_outside.proofs.Leaves.{weaken, run_after, one_call, at_each}
@@ -10,31 +10,45 @@ use Rattle.abc_journal.specs.Image.{settled_image, layout_of, layout_in, opened,
 use Rattle.abc_journal.specs.Journal.{BeginsQuiet, IsAsRead}
 use Rattle.abc_journal.proofs.Image.{settled_twice, settled_long}
 use Rattle.abc_journal.specs.declared.layout.Bounds.{Bounds}
-use Rattle.abc_turns.specs.Session.{Ending, over, quit, waiting, Session, replies, works}
-use Rattle.abc_session.specs.Workspace.{opens}
+use Rattle.abc_turns.specs.Session.{Ending, over, quit, waiting, Session, replies, output, works, last_work}
+use Rattle.abc_store.specs.Workspace.{Workspace}
+use Rattle.abc_store.specs.Opening.{Opens}
+use Rattle.abc_store.specs.Commit.{Work, Holds}
+use Rattle.abc_store.specs.Laws.{OpensToOne}
+use Rattle.abc_store.proofs.Images.{opens_extended}
 use Rattle.abc_turns.specs.Stops.{IsBetween, IsBroken, IsCutShort}
-use Rattle.abc_session.specs.Session.{Work, session_of}
+use Rattle.abc_session.specs.Session.{session_of}
 use Rattle.abc_session.specs.Settled.{IsWaiting}
-use Rattle.abc_session.specs.Serving.{OpensTo, Holds, IsSessionPoint, IsStill}
-use Rattle.abc_session.proofs.Opening.{opens_extended}
-use Rattle.abc_session.specs.Run.{IsStart, HasEnded, StandsSo}
+use Rattle.abc_session.specs.Serving.{OpensTo, IsSessionPoint, IsStill}
+use Rattle.abc_session.specs.Run.{IsStart, HasEnded, IsComplete, StandsSo}
 
 layout_settled : (image : List ℕ) → layout_of (settled_image image) ≡ layout_of image
 unfolding layout_of opened
 layout_settled image = ap (λ (i : List ℕ). layout_in (read_image i)) (settled_twice image)
 
 -- the work of a store that was opened is the start of its session
-pub starts : (image new : List ℕ) (work : Work) → opens image ≡ Ok work.kept → new ≡ settled_image image → Holds new work → IsStart image work
+pub starts : (image new : List ℕ) (work : Work) → OpensTo image work → new ≡ settled_image image → Holds new work → IsStart image work
 starts image new work is settled holds = record { kept = is; layout = sym (layout_settled image) ∙ ap layout_of (sym settled) ∙ holds.layout.is }
 
 -- an image as it reads, or a longer one where it is not to be replaced
 begun_opens : (image c : List ℕ) (work : Work) → IsStart image work → IsAsRead image c → OpensTo c work
-begun_opens image c work start (inl same) = ap opens same ∙ start.kept
+begun_opens image c work start (inl same) = subst (λ (i : List ℕ). OpensTo i work) (sym same) start.kept
 begun_opens image c work start (inr longer) = opens_extended image c work.layout work.kept (record { settled = settled_long image longer.0; is = start.layout }) start.kept longer.1
 
-pub one_start : (image : List ℕ) (a b : Work) → IsStart image a → IsStart image b → a ≡ b
-one_start image a b p q =
-    let kept : a.kept ≡ b.kept = cc (p.kept, q.kept) in
+abbrev wrong_at : ℕ → Result Workspace ℕ
+wrong_at at = Err at
+
+abbrev right_at : Workspace → Result Workspace ℕ
+right_at kept = Ok kept
+
+-- an image that opens to a workspace is wrong nowhere
+pub not_wrong : OpensToOne → (image : List ℕ) (kept : Workspace) (at : ℕ) → Opens image (Ok kept) → Opens image (Err at) → ⊥
+not_wrong one image kept at right wrong = let same : wrong_at at ≡ Ok kept = one image (Err at) (Ok kept) wrong right in cc same
+
+pub one_start : OpensToOne → (image : List ℕ) (a b : Work) → IsStart image a → IsStart image b → a ≡ b
+one_start one image a b p q =
+    let same : right_at a.kept ≡ right_at b.kept = one image (Ok a.kept) (Ok b.kept) p.kept q.kept in
+    let kept : a.kept ≡ b.kept = cc same in
     let layout : a.layout ≡ b.layout = cc (p.layout, q.layout) in
     λ i. record { kept = kept i; layout = layout i }
 
@@ -50,16 +64,27 @@ same_input over bound old mid new same h = (h.0, omega (arith, h.1, ap length sa
 same_input quit bound old mid new same h = h
 same_input waiting bound old mid new same h = h
 
+-- so is a complete run
+pub same_complete : (bounds : Bounds) (old mid new : Outside) → mid.image ≡ old.image → mid.left ≡ old.left → mid.said ≡ old.said → IsComplete bounds mid new → IsComplete bounds old new
+same_complete bounds old mid new same_image same_left same_said p = record {
+  start = p.start;
+  is_start = subst (λ (i : List ℕ). IsStart i p.start) same_image p.is_start;
+  said = p.said ∙ ap (λ (t : List ℕ). t ++ output (session_of bounds p.start mid.left)) same_said ∙ ap (λ (l : List ℕ). old.said ++ output (session_of bounds p.start l)) same_left;
+  holds = subst (λ (l : List ℕ). Holds new.image (last_work p.start (session_of bounds p.start l))) same_left p.holds;
+  ended = subst (λ (l : List ℕ). HasEnded (session_of bounds p.start l).ending bounds.input old new) same_left
+      (same_input (session_of bounds p.start mid.left).ending bounds.input old mid new same_left p.ended);
+}
+
 -- while the store is opened every stop leaves the work of the start
 pub opening_now : {H : Type 0} (clock : H → ℕ) (stopped : H → ℕ → List ℕ → List ℕ → Type 0) (old mid : H) (image said : List ℕ) (work : Work)
     → ((host : H) (earlier later : ℕ) (c s : List ℕ) → earlier ≤ later → stopped host later c s → stopped host earlier c s)
-    → BeginsQuiet clock stopped old image → IsStart image work → Leaves clock stopped old mid (λ c s. (s ≡ said) × (opens c ≡ Ok work.kept)) → (c s : List ℕ) → stopped mid (clock mid) c s → OpensTo c work
+    → BeginsQuiet clock stopped old image → IsStart image work → Leaves clock stopped old mid (λ c s. (s ≡ said) × OpensTo c work) → (c s : List ℕ) → stopped mid (clock mid) c s → OpensTo c work
 opening_now clock stopped old mid image said work since quiet start leaves c s stop =
     ⊎_elim (λ (was : stopped old (clock old) c s). begun_opens image c work start (quiet c s was)) (λ p. p.1) (now_leaves clock stopped old mid _ since leaves c s stop)
 
 module _ {H : Type 0} (clock : H → ℕ) (stopped : H → ℕ → List ℕ → List ℕ → Type 0) (old mid : H) (work : Work) (turns : Session Work) (said : List ℕ) where
   -- while the store is opened nothing is said
-  pub opening_points : Leaves clock stopped old mid (λ c s. (s ≡ said) × (opens c ≡ Ok work.kept)) → Leaves clock stopped old mid (IsSessionPoint work turns said)
+  pub opening_points : Leaves clock stopped old mid (λ c s. (s ≡ said) × OpensTo c work) → Leaves clock stopped old mid (IsSessionPoint work turns said)
   opening_points leaves =
       weaken clock stopped old mid _ _ leaves (λ c s p. point_start OpensTo (works work turns) (replies turns) said c s p.0 p.1)
 
@@ -67,7 +92,7 @@ module _ {H : Type 0} (clock : H → ℕ) (stopped : H → ℕ → List ℕ → 
     (still : IsStill clock stopped old image) (says : (c s : List ℕ) → stopped old (clock old) c s → s ≡ said) (start : IsStart image work) where
   -- before anything is done
   pub still_point : (c s : List ℕ) → stopped old (clock old) c s → IsSessionPoint work turns said c s
-  still_point c s stop = point_start OpensTo (works work turns) (replies turns) said c s (says c s stop) (ap opens (still c s stop) ∙ start.kept)
+  still_point c s stop = point_start OpensTo (works work turns) (replies turns) said c s (says c s stop) (subst (λ (i : List ℕ). OpensTo i work) (sym (still c s stop)) start.kept)
 
   -- after a choice that changes nothing of it
   pub choice_points : (mid : H) → Passes (clock old) (clock mid) (stopped old) (stopped mid) → ((c s : List ℕ) → stopped mid (clock mid) c s → stopped old (clock old) c s)
@@ -90,7 +115,7 @@ pub quiet_after : {H : Type 0} (clock : H → ℕ) (stopped : H → ℕ → List
 quiet_after clock stopped old mid image image_mid still same stop c s now = inl (still c s (stop c s now) ∙ sym same)
 
 -- the last work is held, whatever a stop adds behind the image
-pub last_opens : (image c : List ℕ) (work : Work) → Holds image work → Extends image c → opens c ≡ Ok work.kept
+pub last_opens : (image c : List ℕ) (work : Work) → Holds image work → Extends image c → OpensTo c work
 last_opens image c work holds extends = opens_extended image c work.layout work.kept holds.layout holds.opens_to extends
 
 -- what is so of a run on the store that was chosen is so of the whole run
@@ -100,7 +125,7 @@ same_choice P left left_mid said said_mid same_left same_said p = subst (λ l. P
 -- a choice that failed leaves the image
 pub choice_now : {H : Type 0} (clock : H → ℕ) (stopped : H → ℕ → List ℕ → List ℕ → Type 0) (old mid : H) (image : List ℕ) (work : Work) → IsStill clock stopped old image → IsStart image work
     → ((c s : List ℕ) → stopped mid (clock mid) c s → stopped old (clock old) c s) → (c s : List ℕ) → stopped mid (clock mid) c s → OpensTo c work
-choice_now clock stopped old mid image work still start stop c s now = ap opens (still c s (stop c s now)) ∙ start.kept
+choice_now clock stopped old mid image work still start stop c s now = subst (λ (i : List ℕ). OpensTo i work) (sym (still c s (stop c s now))) start.kept
 
 -- what stands is so of the input and the said bytes at the start
 pub same_stands : (bounds : Bounds) (work : Work) (old mid new : Outside) (now : List ℕ → List ℕ → Type 0) (status : ℕ) → mid.left ≡ old.left → mid.said ≡ old.said → StandsSo bounds work mid new now status → StandsSo bounds work old new now status

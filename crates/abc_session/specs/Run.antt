@@ -6,11 +6,13 @@ use Rattle.abc_journal.specs.declared.layout.Bounds.{Bounds}
 use Rattle.abc_journal.specs.Image.{layout_of}
 use Rattle.abc_turns.specs.Session.{Ending, over, quit, waiting, replies, output, works, last_work}
 use Rattle.abc_turns.specs.Stops.{IsBetween, IsBroken, IsCutShort}
-use Rattle.abc_session.specs.Asking.{Asked, AskedRising}
-use Rattle.abc_session.specs.Workspace.{Workspace, opens}
-use Rattle.abc_session.specs.Session.{Work, session_of}
+use Rattle.abc_reader.specs.Asking.{Asked, AskedRising}
+use Rattle.abc_store.specs.Workspace.{Workspace}
+use Rattle.abc_store.specs.Opening.{Opens}
+use Rattle.abc_store.specs.Commit.{Work, Holds}
+use Rattle.abc_session.specs.Session.{session_of}
 use Rattle.abc_session.specs.Settled.{AsksSettled, IsWaiting}
-use Rattle.abc_session.specs.Serving.{OpensTo, Holds, IsSessionPoint, IsStill, NoneFell, OnlyInputFailed, OnlyStoreFailed, OnlySinkFailed}
+use Rattle.abc_session.specs.Serving.{OpensTo, IsSessionPoint, IsStill, NoneFell, OnlyInputFailed, OnlyStoreFailed, OnlySinkFailed}
 use Rattle.abc_session.specs.declared.status.TheConstants.{COMPLETE, USAGE, INPUT_FAULT, STORE_FAULT, SINK_FAULT, NOT_A_STORE, MEMORY, INPUT_TOO_LONG}
 
 -- the store that the words name: one word, which does not begin with a dash
@@ -20,7 +22,7 @@ store_named _ = None
 
 -- the work that a session starts with: what the image opens to, with the layout of the image as it is then settled
 pub record IsStart (image : List ℕ) (work : Work) : Type 0 where
-  pub kept : opens image ≡ Ok work.kept
+  pub kept : OpensTo image work
   pub layout : layout_of image ≡ Ok work.layout
 
 -- A session ended: its lines are over, and the input was read to its end, which lies before the bound; or an item quit.
@@ -72,7 +74,7 @@ pub record HasCause (tells_image tells_input : Type 0) (bounds : Bounds) (old ne
   pub store_alone : status ≡ STORE_FAULT → OnlyStoreFailed old new
   pub sink_alone : status ≡ SINK_FAULT → OnlySinkFailed old new
   pub faultless : ((status ≡ COMPLETE) ⊎ (status ≡ NOT_A_STORE) ⊎ (status ≡ MEMORY) ⊎ (status ≡ INPUT_TOO_LONG)) → IsFaultless old new
-  pub not_a_store : tells_image → status ≡ NOT_A_STORE → (at : ℕ) × (opens old.image ≡ Err at)
+  pub not_a_store : tells_image → status ≡ NOT_A_STORE → (at : ℕ) × (Opens old.image (Err at))
   pub too_long : status ≡ INPUT_TOO_LONG → new.taken ≡ bounds.input
   pub too_long_input : tells_input → status ≡ INPUT_TOO_LONG → bounds.input ≤ length old.left
   pub none_fell : NoneFell old new
@@ -94,14 +96,14 @@ pub record IsRun {H : Type 0} (tells_chosen tells_image tells_input tells_said :
   pub status_is : IsStatus status
   pub usage : (status ≡ USAGE) ↔ (store_named words ≡ None)
   pub cause : HasCause tells_image tells_input bounds (tell old) (tell new) status
-  pub refused : tells_image → (at : ℕ) → opens (tell old).image ≡ Err at → (status ≡ NOT_A_STORE) ⊎ (status ≡ USAGE) ⊎ (status ≡ INPUT_FAULT) ⊎ (status ≡ STORE_FAULT) ⊎ (status ≡ MEMORY)
+  pub refused : tells_image → (at : ℕ) → Opens (tell old).image (Err at) → (status ≡ NOT_A_STORE) ⊎ (status ≡ USAGE) ⊎ (status ≡ INPUT_FAULT) ⊎ (status ≡ STORE_FAULT) ⊎ (status ≡ MEMORY)
   pub waits : tells_image → tells_input → (work : Work) → IsStart (tell old).image work → status ≡ INPUT_TOO_LONG → (session_of bounds work (tell old).left).ending ≡ waiting
   pub most_taken : ((tell new).taken ≤ bounds.input) ⊎ ((tell new).taken ≡ (tell old).taken)
-  pub completeness : tells_image → (kept : Workspace) → opens (tell old).image ≡ Ok kept → NoneRose (tell old) (tell new) → (status ≡ COMPLETE) ⊎ (status ≡ USAGE) ⊎ (status ≡ INPUT_TOO_LONG) ⊎ (status ≡ MEMORY)
+  pub completeness : tells_image → (kept : Workspace) → Opens (tell old).image (Ok kept) → NoneRose (tell old) (tell new) → (status ≡ COMPLETE) ⊎ (status ≡ USAGE) ⊎ (status ≡ INPUT_TOO_LONG) ⊎ (status ≡ MEMORY)
   -- What stays, and what was chosen.
   pub usage_nothing : status ≡ USAGE → new ≡ old
-  pub untouched : tells_image → (at : ℕ) → opens (tell old).image ≡ Err at → IsUntouched (tell old) (tell new)
-  pub untouched_stops : tells_image → IsStill clock stopped old (tell old).image → (at : ℕ) → opens (tell old).image ≡ Err at → (c s : List ℕ) → stopped new (clock old) c s → c ≡ (tell old).image
+  pub untouched : tells_image → (at : ℕ) → Opens (tell old).image (Err at) → IsUntouched (tell old) (tell new)
+  pub untouched_stops : tells_image → IsStill clock stopped old (tell old).image → (at : ℕ) → Opens (tell old).image (Err at) → (c s : List ℕ) → stopped new (clock old) c s → c ≡ (tell old).image
   pub chosen : tells_chosen → (store : List ℕ) → store_named words ≡ Some store
       → ((tell new).chosen ≡ chose store (tell old).chosen) ⊎ (((tell new).chosen ≡ (tell old).chosen) × ((status ≡ INPUT_FAULT) ⊎ (status ≡ STORE_FAULT) ⊎ (status ≡ MEMORY)))
   -- What was asked for, and what stands after each status but 0, 2 and 6.

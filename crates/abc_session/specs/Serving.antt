@@ -1,34 +1,24 @@
 -- What holds while a session is served.
-use Rattle.std.specs.Prelude.{◌≡◌, ◌≤◌, ℕ, List, Ok}
+use Rattle.std.specs.Prelude.{◌≡◌, ◌≤◌, ℕ, List}
+use Rattle.abc_num.specs.declared.lines.Line.{Line}
 use Rattle.abc_outside.specs.Outside.{Outside}
 use Rattle.abc_turns.specs.Session.{Session, replies, works}
 use Rattle.abc_turns.specs.Stops.{IsPoint, IsInItem}
 use Rattle.abc_journal.specs.declared.layout.Bounds.{Bounds}
-use Rattle.abc_journal.specs.Journal.{HasLayout}
-use Rattle.abc_session.specs.Workspace.{opens}
-use Rattle.abc_session.specs.Session.{Work, outcome}
-use Rattle.abc_session.specs.declared.store.Store.{Store}
-use Rattle.abc_num.specs.declared.lines.RawLine.{RawLine}
+use Rattle.abc_store.specs.Commit.{Work}
+use Rattle.abc_store.specs.Opening as store
+use Rattle.abc_session.specs.Session.{outcome}
 
 -- the image opens to the workspace of this work
 abbrev pub OpensTo : List ℕ → Work → Type 0
-OpensTo image work = opens image ≡ Ok work.kept
-
--- the work of a store
-abbrev pub work_of : Store → Work
-work_of store = record { kept = record { targets = store.targets }; layout = store.journal.layout }
-
--- the image holds this work
-pub record Holds (image : List ℕ) (work : Work) : Type 0 where
-  pub layout : HasLayout image work.layout
-  pub opens_to : OpensTo image work
+OpensTo image work = store.OpensTo image work.kept
 
 -- a stop of a session that starts with this work
 abbrev pub IsSessionPoint : Work → Session Work → List ℕ → List ℕ → List ℕ → Type 0
 IsSessionPoint start turns said c s = IsPoint OpensTo (works start turns) (replies turns) said c s
 
 -- a stop while one item is served
-abbrev pub IsItemStop : Bounds → ℕ → Work → RawLine → List ℕ → List ℕ → List ℕ → Type 0
+abbrev pub IsItemStop : Bounds → ℕ → Work → List Line → List ℕ → List ℕ → List ℕ → Type 0
 IsItemStop bounds k work item said c s = IsInItem OpensTo work (outcome bounds k work item).work (outcome bounds k work item).reply said c s
 
 -- an item leaves the input alone, and no count falls

@@ -4,7 +4,8 @@ use Rattle.abc_outside.specs.Outside.{Outside}
 use Rattle.abc_journal.specs.declared.layout.Bounds.{Bounds}
 use Rattle.abc_turns.specs.Session.{replies, output, works, last_work}
 use Rattle.abc_turns.specs.Stops.{IsBetween}
-use Rattle.abc_session.specs.Session.{Work, session_of, front_session}
+use Rattle.abc_store.specs.Commit.{Work}
+use Rattle.abc_session.specs.Session.{session_of, front_session}
 use Rattle.abc_session.specs.Serving.{OpensTo}
 
 -- what these bytes settle: the output of the session over the lines that an LF ends

@@ -3,9 +3,10 @@ ghost use Rattle.std.specs.Prelude.{◌≡◌, ◌≢◌, ◌⊎◌, ◌≤◌, 
 ghost use Rattle.abc_outside.specs.Stop.{Leaves, IsQuiet, Now};
 ghost use Rattle.abc_journal.specs.Journal.{BeginsQuiet};
 ghost use Rattle.abc_turns.specs.Session.{waiting};
-ghost use Rattle.abc_session.specs.Asking.{Asked, AskedRising};
-ghost use Rattle.abc_session.specs.Workspace.{opens};
-ghost use Rattle.abc_session.specs.Session.{Work, session_of};
+ghost use Rattle.abc_reader.specs.Asking.{Asked, AskedRising};
+ghost use Rattle.abc_store.specs.Opening.{Opens};
+ghost use Rattle.abc_store.specs.Commit.{Work};
+ghost use Rattle.abc_session.specs.Session.{session_of};
 ghost use Rattle.abc_session.specs.Serving.{IsStill, IsSessionPoint};
 ghost use Rattle.abc_session.specs.Product.{product_bounds};
 ghost use Rattle.abc_session.specs.Settled.{AsksSettled};
@@ -15,10 +16,11 @@ use crate::session::{SessionStop, serve_all};
 use crate::status::{
     COMPLETE, INPUT_FAULT, INPUT_TOO_LONG, MEMORY, NOT_A_STORE, SINK_FAULT, STORE_FAULT, USAGE,
 };
-use crate::store::{OpenFault, Store};
-use abc_journal::Bounds;
+use abc_journal::{BeginFault, Bounds};
 use abc_num::limits::{CHECKPOINT_BOUND, IMAGE_BOUND, INPUT_BOUND};
 use abc_outside::{ChooseFault, Host};
+use abc_store::Store;
+use abc_store::laws::images_open_to_one;
 use std::alloc::Global;
 
 /// The store that the words name.
@@ -56,11 +58,11 @@ fn run_store<H: Host>(alloc: Global, host: &mut H, b: &Bounds) -> u8
     ensures complete { H.tells_image → H.tells_said → H.tells_input → result ≡ COMPLETE → IsComplete b.now (H.now host.old) (H.now host.new) }
     ensures status { IsRunStatus result }
     ensures cause { HasCause H.tells_image H.tells_input b.now (H.now host.old) (H.now host.new) result }
-    ensures refused { H.tells_image → (at : ℕ) → opens (H.now host.old).image ≡ Err at → (result ≡ NOT_A_STORE) ⊎ (result ≡ STORE_FAULT) ⊎ (result ≡ MEMORY) }
+    ensures refused { H.tells_image → (at : ℕ) → Opens (H.now host.old).image (Err at) → (result ≡ NOT_A_STORE) ⊎ (result ≡ STORE_FAULT) ⊎ (result ≡ MEMORY) }
     ensures waits { H.tells_image → H.tells_input → (work : Work) → IsStart (H.now host.old).image work → result ≡ INPUT_TOO_LONG → (session_of b.now work (H.now host.old).left).ending ≡ waiting }
     ensures most_taken { (H.now host.new).taken ≤ b.now.input }
-    ensures untouched { H.tells_image → (at : ℕ) → opens (H.now host.old).image ≡ Err at → IsUntouched (H.now host.old) (H.now host.new) }
-    ensures untouched_stops { H.tells_image → (at : ℕ) → opens (H.now host.old).image ≡ Err at → Leaves H.clock H.stopped host.old host.new (H.stopped host.old (H.clock host.old)) }
+    ensures untouched { H.tells_image → (at : ℕ) → Opens (H.now host.old).image (Err at) → IsUntouched (H.now host.old) (H.now host.new) }
+    ensures untouched_stops { H.tells_image → (at : ℕ) → Opens (H.now host.old).image (Err at) → Leaves H.clock H.stopped host.old host.new (H.stopped host.old (H.clock host.old)) }
     ensures chosen { (H.now host.new).chosen ≡ (H.now host.old).chosen }
     ensures asked { H.tells_image → H.tells_said → H.tells_input → (work : Work) → IsStart (H.now host.old).image work
         → Asked (AsksSettled b.now work (H.now host.old).left (length (H.now host.old).said)) (H.now host.old).asked (H.now host.new).asked }
@@ -74,11 +76,12 @@ fn run_store<H: Host>(alloc: Global, host: &mut H, b: &Bounds) -> u8
     ensures quiet { H.tells_image → BeginsQuiet H.clock H.stopped host.old (H.now host.old).image
         → result ≡ COMPLETE → IsQuiet H.clock H.stopped host.new (H.now host.new).image }
 {
-    let mut store = match Store::open(alloc, host, b) {
+    images_open_to_one();
+    let mut store = match Store::begin(alloc, host, b) {
         Ok(store) => store,
-        Err(OpenFault::StoreFault) => return STORE_FAULT,
-        Err(OpenFault::NotAStore) => return NOT_A_STORE,
-        Err(OpenFault::Memory) => return MEMORY,
+        Err(BeginFault::StoreFault) => return STORE_FAULT,
+        Err(BeginFault::NotAStore { .. }) => return NOT_A_STORE,
+        Err(BeginFault::Memory) => return MEMORY,
     };
     match serve_all(alloc, &mut store, host, b.input) {
         Ok(()) => COMPLETE,
@@ -91,6 +94,7 @@ fn run_store<H: Host>(alloc: Global, host: &mut H, b: &Bounds) -> u8
 pub fn run_within<H: Host>(alloc: Global, words: &[&str], host: &mut H, b: &Bounds) -> u8
     ensures run { IsRun H.tells_chosen H.tells_image H.tells_input H.tells_said H.now H.clock H.stopped b.now (map (λ word. word.now) words.now) host.old host.new result }
 {
+    images_open_to_one();
     let Some(store) = store_of(words) else {
         return USAGE;
     };

@@ -1,24 +1,23 @@
 //! The session: items one after the other, to the end of the input.
-ghost use Rattle.std.specs.Prelude.{◌≡◌, ◌==◌, ◌≢◌, ◌≤◌, ◌<◌, ◌⊎◌, ◌++◌, ◌+◌, suc, [], true, false, List, ℕ, length, Ok, OnOk, IsErrOf, IsTrue};
-ghost use Rattle.std.specs.List.{list_all};
+ghost use Rattle.std.specs.Prelude.{◌≡◌, ◌≢◌, ◌≤◌, ◌<◌, ◌⊎◌, ◌++◌, ◌+◌, suc, [], true, false, List, ℕ, length, Ok, OnOk, IsErrOf, IsTrue};
 ghost use Rattle.abc_outside.specs.Outside.{RoseByOne, IsFaultless};
 ghost use Rattle.abc_outside.specs.Stop.{Leaves, IsQuiet, Now};
 ghost use Rattle.abc_turns.specs.Session.{waiting, replies, output, works, last_work};
 ghost use Rattle.abc_turns.specs.Stops.{IsBetween, IsBroken, IsCutShort};
-ghost use Rattle.abc_session.specs.Asking.{Asked, AskedRising, next_ask};
-ghost use Rattle.abc_session.specs.Lines.{is_blank};
+ghost use Rattle.abc_reader.specs.Asking.{Asked, AskedRising, next_ask};
+ghost use Rattle.abc_reader.specs.Reading.{WantsMore, AsksMore};
+ghost use Rattle.abc_store.specs.Commit.{Holds};
+ghost use Rattle.abc_store.specs.View.{work_of};
 ghost use Rattle.abc_session.specs.Session.{session_of};
-ghost use Rattle.abc_session.specs.Serving.{work_of, OpensTo, Holds, IsSessionPoint, NoneFell, OnlyInputFailed, OnlyStoreFailed, OnlySinkFailed};
+ghost use Rattle.abc_session.specs.Serving.{OpensTo, IsSessionPoint, NoneFell, OnlyInputFailed, OnlyStoreFailed, OnlySinkFailed};
 ghost use Rattle.abc_session.specs.Settled.{AsksSettled, IsWaiting};
 ghost use Rattle.abc_session.specs.Run.{HasEnded};
-ghost use Rattle.abc_session.specs.inner.Place.{place_at, lines_at, session_at, WentOn};
-ghost use Rattle.abc_session.specs.inner.Reading.{pending_of, used_of, WantsMore, AsksMore};
+ghost use Rattle.abc_session.specs.inner.Place.{place_at, session_at, WentOn, Ended};
 
-use crate::reader::Reader;
 use crate::serve::{ServeStop, serve_item};
-use crate::store::Store;
-use abc_num::RawLine;
 use abc_outside::{Host, LineStop};
+use abc_reader::Reader;
+use abc_store::Store;
 use std::alloc::Global;
 
 /// Why a session ends before the end of its input.
@@ -59,20 +58,7 @@ fn stop_of_item(stop: ServeStop) -> SessionStop
     }
 }
 
-fn are_spaces(text: &[u8]) -> bool
-    ensures { result ≡ list_all (λ byte. byte == 32) text.now }
-{
-    text.iter().all(|byte| *byte == b' ')
-}
-
-/// Whether a line means nothing: no bytes, or spaces alone.
-fn is_blank(line: &RawLine) -> bool
-    ensures { result ≡ is_blank line.now }
-{
-    !line.long && are_spaces(line.bytes.bytes())
-}
-
-/// Serves the next line, if it is an item. False at the end of the input.
+/// Serves the next item, if there is one. False at the end of the session: its input is over, or the item quits.
 fn turn<H: Host>(
     alloc: Global,
     store: &mut Store,
@@ -80,17 +66,16 @@ fn turn<H: Host>(
     reader: &mut Reader,
     served: &mut u64,
 ) -> Result<bool, SessionStop>
-    requires sound { IsTrue store.old.journal.sound }
+    requires sound { IsTrue store.old.sound }
     requires holds { H.tells_image → Holds (H.now host.old).image (work_of store.old) }
     requires same_count { (H.now host.old).taken ≡ reader.old.taken }
     requires ended { H.tells_input → reader.old.ended ≡ true → (H.now host.old).left ≡ [] }
-    requires counted { served.old ≤ used_of reader.old }
+    requires counted { served.old ≤ reader.old.used }
 
-    ensures goes_on { H.tells_input → OnOk result (WentOn store.old.journal.bounds H.tells_said
-        (place_at served.old (work_of store.old) reader.old (H.now host.old)) (place_at served.new (work_of store.new) reader.new (H.now host.new))) }
-    ensures over { H.tells_input → result ≡ Ok false → lines_at (place_at served.new (work_of store.new) reader.new (H.now host.new)) ≡ [] }
-    ensures end { H.tells_input → result ≡ Ok false → (H.now host.new).left ≡ [] }
-    ensures end_bound { result ≡ Ok false → reader.new.taken < reader.new.bound }
+    ensures goes_on { H.tells_input → result ≡ Ok true → WentOn store.old.bounds H.tells_said
+        (place_at served.old (work_of store.old) reader.old (H.now host.old)) (place_at served.new (work_of store.new) reader.new (H.now host.new)) }
+    ensures ends { H.tells_input → result ≡ Ok false → Ended store.old.bounds H.tells_said
+        (place_at served.old (work_of store.old) reader.old (H.now host.old)) (place_at served.new (work_of store.new) reader.new (H.now host.new)) }
 
     ensures input_fault { IsErrOf result SessionStop.Input → RoseByOne (H.now host.old).input_faults (H.now host.new).input_faults }
     ensures store_fault { IsErrOf result SessionStop.StoreFault → RoseByOne (H.now host.old).store_faults (H.now host.new).store_faults }
@@ -103,27 +88,27 @@ fn turn<H: Host>(
     ensures long { IsErrOf result SessionStop.Long → reader.new.taken ≡ reader.new.bound }
     ensures most_taken { reader.new.taken ≤ reader.new.bound }
 
-    ensures falls { result ≡ Ok true → used_of reader.old < used_of reader.new }
-    ensures counted { OnOk result (served.new ≤ used_of reader.new) }
+    ensures falls { result ≡ Ok true → reader.old.used < reader.new.used }
+    ensures counted { OnOk result (served.new ≤ reader.new.used) }
     ensures total { H.tells_input → reader.new.taken + length (H.now host.new).left ≡ reader.old.taken + length (H.now host.old).left }
     ensures counts { (H.now host.new).taken ≡ reader.new.taken }
     ensures ended { H.tells_input → OnOk result (reader.new.ended ≡ true → (H.now host.new).left ≡ []) }
     ensures input_bound { reader.new.bound ≡ reader.old.bound }
     ensures holds { H.tells_image → OnOk result (Holds (H.now host.new).image (work_of store.new)) }
-    ensures bounds { store.new.journal.bounds ≡ store.old.journal.bounds }
-    ensures sound { OnOk result (IsTrue store.new.journal.sound) }
+    ensures bounds { store.new.bounds ≡ store.old.bounds }
+    ensures sound { OnOk result (IsTrue store.new.sound) }
     ensures chosen { (H.now host.new).chosen ≡ (H.now host.old).chosen }
     ensures none_fell { NoneFell (H.now host.old) (H.now host.new) }
 
     // What it asked for.
     ensures asked { H.tells_said → H.tells_input
-        → Asked (AsksMore (pending_of reader.old) (H.now host.old).left reader.old.taken (length (H.now host.old).said)) (H.now host.old).asked (H.now host.new).asked }
+        → Asked (AsksMore reader.old (H.now host.old).left (length (H.now host.old).said)) (H.now host.old).asked (H.now host.new).asked }
     ensures asks_rise { H.tells_said → AskedRising (next_ask reader.old.taken reader.old.ended) (next_ask reader.new.taken reader.new.ended) (H.now host.old).asked (H.now host.new).asked }
     ensures stays_ended { reader.old.ended ≡ true → reader.new.ended ≡ true }
     ensures ended_asks { reader.old.ended ≡ true → (H.now host.new).asked ≡ (H.now host.old).asked }
     ensures ended_ends { reader.old.ended ≡ true → (IsErrOf result SessionStop.Input ⊎ IsErrOf result SessionStop.Long) → ⊥ }
     ensures wants { H.tells_input → (IsErrOf result SessionStop.Input ⊎ IsErrOf result SessionStop.Long)
-        → WantsMore (pending_of reader.old) (H.now host.old).left reader.old.taken (H.now host.new).taken }
+        → WantsMore reader.old (H.now host.old).left (H.now host.new).taken }
 
     // What stands where it stops.
     ensures idle_said { (IsErrOf result SessionStop.Input ⊎ IsErrOf result SessionStop.Long ⊎ IsErrOf result SessionStop.Memory) → (H.now host.new).said ≡ (H.now host.old).said }
@@ -131,32 +116,29 @@ fn turn<H: Host>(
         → (IsErrOf result SessionStop.Input ⊎ IsErrOf result SessionStop.Long ⊎ IsErrOf result SessionStop.Memory)
         → (c s : List ℕ) → Now H.clock H.stopped host.new c s → OpensTo c (work_of store.old) }
     ensures broken { H.tells_image → H.tells_said → H.tells_input → IsQuiet H.clock H.stopped host.old (H.now host.old).image → IsErrOf result SessionStop.StoreFault
-        → IsBroken OpensTo (works (work_of store.old) (session_at store.old.journal.bounds (place_at served.old (work_of store.old) reader.old (H.now host.old))))
-        (replies (session_at store.old.journal.bounds (place_at served.old (work_of store.old) reader.old (H.now host.old))))
+        → IsBroken OpensTo (works (work_of store.old) (session_at store.old.bounds (place_at served.old (work_of store.old) reader.old (H.now host.old))))
+        (replies (session_at store.old.bounds (place_at served.old (work_of store.old) reader.old (H.now host.old))))
         (H.now host.old).said (H.now host.new).said (Now H.clock H.stopped host.new) }
     ensures cut_short { H.tells_image → H.tells_said → H.tells_input → IsQuiet H.clock H.stopped host.old (H.now host.old).image → IsErrOf result SessionStop.SinkFault
-        → IsCutShort OpensTo (works (work_of store.old) (session_at store.old.journal.bounds (place_at served.old (work_of store.old) reader.old (H.now host.old))))
-        (replies (session_at store.old.journal.bounds (place_at served.old (work_of store.old) reader.old (H.now host.old))))
+        → IsCutShort OpensTo (works (work_of store.old) (session_at store.old.bounds (place_at served.old (work_of store.old) reader.old (H.now host.old))))
+        (replies (session_at store.old.bounds (place_at served.old (work_of store.old) reader.old (H.now host.old))))
         (H.now host.old).said (H.now host.new).said (Now H.clock H.stopped host.new) }
 
     // At every moment of the call, and at its end.
     ensures stops { H.tells_image → H.tells_said → H.tells_input → IsQuiet H.clock H.stopped host.old (H.now host.old).image
         → Leaves H.clock H.stopped host.old host.new (IsSessionPoint (work_of store.old)
-        (session_at store.old.journal.bounds (place_at served.old (work_of store.old) reader.old (H.now host.old))) (H.now host.old).said) }
+        (session_at store.old.bounds (place_at served.old (work_of store.old) reader.old (H.now host.old))) (H.now host.old).said) }
     ensures quiet { H.tells_image → IsQuiet H.clock H.stopped host.old (H.now host.old).image
         → OnOk result (IsQuiet H.clock H.stopped host.new (H.now host.new).image) }
 {
-    let line = match reader.next(host) {
-        Ok(Some(line)) => line,
+    let item = match reader.next_item(host) {
+        Ok(Some(item)) => item,
         Ok(None) => return Ok(false),
         Err(stop) => return Err(stop_of_line(stop)),
     };
-    if is_blank(&line) {
-        return Ok(true);
-    }
     *served += 1;
-    match serve_item(alloc, store, host, &line, *served) {
-        Ok(()) => Ok(true),
+    match serve_item(alloc, store, host, &item, *served) {
+        Ok(done) => Ok(!done.quit),
         Err(stop) => Err(stop_of_item(stop)),
     }
 }
@@ -168,21 +150,21 @@ pub(crate) fn serve_all<H: Host>(
     host: &mut H,
     bound: u64,
 ) -> Result<(), SessionStop>
-    requires sound { IsTrue store.old.journal.sound }
+    requires sound { IsTrue store.old.sound }
     requires holds { H.tells_image → Holds (H.now host.old).image (work_of store.old) }
     requires none_taken { (H.now host.old).taken ≡ 0 }
-    requires same_bound { bound ≡ store.old.journal.bounds.input }
+    requires same_bound { bound ≡ store.old.bounds.input }
 
     ensures said { H.tells_said → H.tells_input → OnOk result ((H.now host.new).said ≡ (H.now host.old).said
-        ++ output (session_of store.old.journal.bounds (work_of store.old) (H.now host.old).left)) }
-    ensures work { H.tells_input → OnOk result (work_of store.new ≡ last_work (work_of store.old) (session_of store.old.journal.bounds (work_of store.old) (H.now host.old).left)) }
+        ++ output (session_of store.old.bounds (work_of store.old) (H.now host.old).left)) }
+    ensures work { H.tells_input → OnOk result (work_of store.new ≡ last_work (work_of store.old) (session_of store.old.bounds (work_of store.old) (H.now host.old).left)) }
     ensures holds { H.tells_image → OnOk result (Holds (H.now host.new).image (work_of store.new)) }
-    ensures ended { H.tells_input → OnOk result (HasEnded (session_of store.old.journal.bounds (work_of store.old) (H.now host.old).left).ending store.old.journal.bounds.input (H.now host.old) (H.now host.new)) }
+    ensures ended { H.tells_input → OnOk result (HasEnded (session_of store.old.bounds (work_of store.old) (H.now host.old).left).ending store.old.bounds.input (H.now host.old) (H.now host.new)) }
 
     ensures long { IsErrOf result SessionStop.Long → (H.now host.new).taken ≡ bound }
     ensures most_taken { (H.now host.new).taken ≤ bound }
     ensures long_input { H.tells_input → IsErrOf result SessionStop.Long → bound ≤ length (H.now host.old).left }
-    ensures waits { H.tells_input → IsErrOf result SessionStop.Long → (session_of store.old.journal.bounds (work_of store.old) (H.now host.old).left).ending ≡ waiting }
+    ensures waits { H.tells_input → IsErrOf result SessionStop.Long → (session_of store.old.bounds (work_of store.old) (H.now host.old).left).ending ≡ waiting }
     ensures input_fault { IsErrOf result SessionStop.Input → RoseByOne (H.now host.old).input_faults (H.now host.new).input_faults }
     ensures store_fault { IsErrOf result SessionStop.StoreFault → RoseByOne (H.now host.old).store_faults (H.now host.new).store_faults }
     ensures sink_fault { IsErrOf result SessionStop.SinkFault → RoseByOne (H.now host.old).sink_faults (H.now host.new).sink_faults }
@@ -195,25 +177,25 @@ pub(crate) fn serve_all<H: Host>(
     ensures none_fell { NoneFell (H.now host.old) (H.now host.new) }
 
     // What was asked for, and what stands where the session stops.
-    ensures asked { H.tells_said → H.tells_input → Asked (AsksSettled store.old.journal.bounds (work_of store.old) (H.now host.old).left (length (H.now host.old).said))
+    ensures asked { H.tells_said → H.tells_input → Asked (AsksSettled store.old.bounds (work_of store.old) (H.now host.old).left (length (H.now host.old).said))
         (H.now host.old).asked (H.now host.new).asked }
     ensures asks_rise { H.tells_said → AskedRising 0 (suc (H.now host.new).taken) (H.now host.old).asked (H.now host.new).asked }
     ensures waiting { H.tells_image → H.tells_said → H.tells_input → IsQuiet H.clock H.stopped host.old (H.now host.old).image
         → (IsErrOf result SessionStop.Input ⊎ IsErrOf result SessionStop.Long)
-        → IsWaiting store.old.journal.bounds (work_of store.old) (H.now host.old).left (H.now host.old).said (H.now host.new) (Now H.clock H.stopped host.new) }
+        → IsWaiting store.old.bounds (work_of store.old) (H.now host.old).left (H.now host.old).said (H.now host.new) (Now H.clock H.stopped host.new) }
     ensures between { H.tells_image → H.tells_said → H.tells_input → IsQuiet H.clock H.stopped host.old (H.now host.old).image → IsErrOf result SessionStop.Memory
-        → IsBetween OpensTo (works (work_of store.old) (session_of store.old.journal.bounds (work_of store.old) (H.now host.old).left)) (replies (session_of store.old.journal.bounds (work_of store.old) (H.now host.old).left))
+        → IsBetween OpensTo (works (work_of store.old) (session_of store.old.bounds (work_of store.old) (H.now host.old).left)) (replies (session_of store.old.bounds (work_of store.old) (H.now host.old).left))
         (H.now host.old).said (H.now host.new).said (Now H.clock H.stopped host.new) }
     ensures broken { H.tells_image → H.tells_said → H.tells_input → IsQuiet H.clock H.stopped host.old (H.now host.old).image → IsErrOf result SessionStop.StoreFault
-        → IsBroken OpensTo (works (work_of store.old) (session_of store.old.journal.bounds (work_of store.old) (H.now host.old).left)) (replies (session_of store.old.journal.bounds (work_of store.old) (H.now host.old).left))
+        → IsBroken OpensTo (works (work_of store.old) (session_of store.old.bounds (work_of store.old) (H.now host.old).left)) (replies (session_of store.old.bounds (work_of store.old) (H.now host.old).left))
         (H.now host.old).said (H.now host.new).said (Now H.clock H.stopped host.new) }
     ensures cut_short { H.tells_image → H.tells_said → H.tells_input → IsQuiet H.clock H.stopped host.old (H.now host.old).image → IsErrOf result SessionStop.SinkFault
-        → IsCutShort OpensTo (works (work_of store.old) (session_of store.old.journal.bounds (work_of store.old) (H.now host.old).left)) (replies (session_of store.old.journal.bounds (work_of store.old) (H.now host.old).left))
+        → IsCutShort OpensTo (works (work_of store.old) (session_of store.old.bounds (work_of store.old) (H.now host.old).left)) (replies (session_of store.old.bounds (work_of store.old) (H.now host.old).left))
         (H.now host.old).said (H.now host.new).said (Now H.clock H.stopped host.new) }
 
     // At every moment of the session, and at its end.
     ensures stops { H.tells_image → H.tells_said → H.tells_input → IsQuiet H.clock H.stopped host.old (H.now host.old).image
-        → Leaves H.clock H.stopped host.old host.new (IsSessionPoint (work_of store.old) (session_of store.old.journal.bounds (work_of store.old) (H.now host.old).left) (H.now host.old).said) }
+        → Leaves H.clock H.stopped host.old host.new (IsSessionPoint (work_of store.old) (session_of store.old.bounds (work_of store.old) (H.now host.old).left) (H.now host.old).said) }
     ensures quiet { H.tells_image → IsQuiet H.clock H.stopped host.old (H.now host.old).image
         → OnOk result (IsQuiet H.clock H.stopped host.new (H.now host.new).image) }
 {

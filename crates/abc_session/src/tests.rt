@@ -85,7 +85,7 @@ struct Session {
     size: usize,
 }
 
-const SESSIONS: [Session; 14] = [
+const SESSIONS: [Session; 15] = [
     Session {
         name: "no lines",
         input: "",
@@ -105,9 +105,9 @@ const SESSIONS: [Session; 14] = [
         size: 65,
     },
     Session {
-        name: "another form",
-        input: "WRITE 1+1\n",
-        said: "[1] fault line 1: NotYet\n",
+        name: "an item of several lines, which the next line ends",
+        input: "IF 1 = 1:\n  WRITE 1\n\n  WRITE 2\nWRITE 3\n",
+        said: "12\n[1] ok\n3\n[2] ok\n",
         size: 65,
     },
     Session {
@@ -137,7 +137,7 @@ const SESSIONS: [Session; 14] = [
     Session {
         name: "another CR is",
         input: "WRITE 1\r\r\nWRITE\r1\n",
-        said: "[1] fault line 1: NotYet\n[2] fault line 1: NotYet\n",
+        said: "[1] fault line 1: BadByte\n[2] fault line 1: BadByte\n",
         size: 65,
     },
     Session {
@@ -149,7 +149,7 @@ const SESSIONS: [Session; 14] = [
     Session {
         name: "an indented line",
         input: " WRITE 1\n",
-        said: "[1] fault line 1: NotYet\n",
+        said: "[1] fault line 1: BadIndent\n",
         size: 65,
     },
     Session {
@@ -159,15 +159,21 @@ const SESSIONS: [Session; 14] = [
         size: 138,
     },
     Session {
-        name: "the target itself, and names of operations",
-        input: "PUT x IN x\nPUT 1 IN mod\nWRITE keys\n",
-        said: "[1] fault line 1: NotYet\n[2] fault line 1: NotYet\n[3] fault line 1: NotYet\n",
+        name: "an item that quits, behind which nothing is read",
+        input: "WRITE 1\nQUIT\nWRITE 2\n",
+        said: "1\n[1] ok\n[2] ok\n",
+        size: 65,
+    },
+    Session {
+        name: "an open item that the end of the input ends",
+        input: "IF 1 = 1:\n  WRITE 1",
+        said: "1\n[1] ok\n",
         size: 65,
     },
     Session {
         name: "the largest number, and one more",
         input: "WRITE 170141183460469231731687303715884105727\nWRITE 170141183460469231731687303715884105728\n",
-        said: "170141183460469231731687303715884105727\n[1] ok\n[2] fault line 1: NotYet\n",
+        said: "170141183460469231731687303715884105727\n[1] ok\n[2] fault line 1: BadNumber\n",
         size: 65,
     },
 ];

@@ -12,13 +12,12 @@ use Rattle.abc_journal.specs.declared.faults.BeginFault.{BeginFault}
 use Rattle.abc_journal.specs.declared.faults.BeginFault.TheVariants.{StoreFault, NotAStore, Memory}
 use Rattle.abc_journal.proofs.Image.{settled_twice, settled_short, opened_extended, is_read}
 use Rattle.abc_journal.proofs.Follow.{Follows, reach}
-use Rattle.abc_frames.specs.Maps.{Targets}
 use Rattle.abc_record.specs.Laws.{OneListIsSpelled}
 use Rattle.abc_store.specs.Workspace.{Workspace, empty, changed_by}
 use Rattle.abc_store.specs.Opening.{LeadsTo, Make, MadeOf, Opens, OpensTo}
 use Rattle.abc_store.specs.Commit.{StillOpens, OpensToEither}
 use Rattle.abc_store.specs.inner.Steps.{IsSpellable}
-use Rattle.abc_store.proofs.Targets.{named_after}
+use Rattle.abc_store.proofs.Wholes.{spellable_after}
 
 -- ---- records
 
@@ -42,19 +41,22 @@ any_gate gate other ws last (q ∷ qs) (inr m) = absurd (no_err last gate m.1)
     no_err : (w : Workspace) (at : ℕ) → Ok w ≡ Err at → ⊥
     no_err w at e = cc
 
+pub empty_spellable : IsSpellable empty
+empty_spellable = record { named = tt; units = tt; limits = record { targets = omega arith; units = omega arith } }
+
 -- what records make can be spelled
 pub made_named : (gate : ℕ) (ws last : Workspace) (ps : List (List ℕ)) → IsSpellable ws → Make gate ws ps (Ok last) → IsSpellable last
 made_named gate ws last [] s is = let same : ws ≡ last = cc in subst IsSpellable same s
 made_named gate ws last (q ∷ qs) s (inl m) =
-    made_named (gate + 9 + length q) m.0 last qs (named_after m.1.changes ws m.0 m.1.spells.kept.1 s.0 m.1.made, m.1.limits) m.2
+    made_named (gate + 9 + length q) m.0 last qs (spellable_after m.1.changes ws m.0 m.1.spells.kept s m.1.made (m.0, m.1.made, m.1.limits)) m.2
 made_named gate ws last (q ∷ qs) s (inr m) = absurd (no_err last gate m.1)
   where
     no_err : (w : Workspace) (at : ℕ) → Ok w ≡ Err at → ⊥
     no_err w at e = cc
 
--- from no targets
-pub from_none : (start : ℕ) (ts : Targets) (ps : List (List ℕ)) (found : Result Workspace ℕ) → ts ≡ [] → Make start (record { targets = ts }) ps found → Make start empty ps found
-from_none start ts ps found e made = subst (λ (t : Targets). Make start (record { targets = t }) ps found) e made
+-- from nothing
+pub from_nothing : (start : ℕ) (ws : Workspace) (ps : List (List ℕ)) (found : Result Workspace ℕ) → ws ≡ empty → Make start ws ps found → Make start empty ps found
+from_nothing start ws ps found e made = subst (λ (w : Workspace). Make start w ps found) e made
 
 -- the gate of a record that leads nowhere stands before the closing gate
 pub wrong_within : (image : List ℕ) (at : ℕ) (ws : Workspace) (ps : List (List ℕ)) (closing wrong : ℕ) → Follows image at ps closing → Make at ws ps (Err wrong) → wrong ≤ closing

@@ -1,4 +1,7 @@
 pub mod Targets
+pub mod Units
+pub mod OwnLines
+pub mod Wholes
 pub mod Images
 mod Stepping
 mod Rows

@@ -1,6 +1,6 @@
 -- Worked commits, by the sizes of their images, and worked images, computed.
-use Rattle.std.proofs.Common.{◌≡◌, inl, ℕ, List, [], ◌∷◌, ◌++◌, take, refl, sym, ◌∙◌, ap, false, true, arith, codes}
-use Rattle.std.specs.Prelude.{Ok, Err, Some, None, pos}
+use Rattle.std.proofs.Common.{◌≡◌, inl, ℕ, List, [], ◌∷◌, ◌++◌, take, refl, ap, false, true, arith, codes}
+use Rattle.std.specs.Prelude.{Ok, Err, Some, option_map, option_and_then, pos}
 use Rattle.abc_num.specs.Number.{whole_number, IsNumber}
 use Rattle.abc_num.specs.declared.lines.Line.{Line}
 use Rattle.abc_value.specs.Tree.{number}
@@ -10,13 +10,16 @@ use Rattle.abc_journal.specs.declared.layout.Bounds.{Bounds}
 use Rattle.abc_journal.specs.Image.{fresh_image, opened, read_image, settled_image, follow, live_slot, behind_gate}
 use Rattle.abc_journal.specs.Commit.{committed}
 use Rattle.abc_record.specs.declared.change.Change.{Change}
-use Rattle.abc_record.specs.declared.change.Change.TheVariants.{SetTarget, DropTarget, SetUnit}
+use Rattle.abc_tree.specs.declared.commands.Unit.{Unit as Routine}
+use Rattle.abc_tree.specs.declared.commands.ActionNode.TheVariants as node
+use Rattle.abc_tree.specs.declared.templates.TemplateKind.TheVariants as kind
+use Rattle.abc_tree.specs.declared.templates.Word.TheVariants as word
+use Rattle.abc_record.specs.declared.change.Change.TheVariants.{SetTarget, DropTarget, SetUnit, DropUnit}
 use Rattle.abc_record.specs.Bytes.{in_four, in_eight, in_sixteen, spelled_text}
 use Rattle.abc_record.specs.Spelling.{spelled_number, spelled_change, spelled}
-use Rattle.abc_record.specs.Kept.{IsKept, IsSpelling}
-use Rattle.abc_record.specs.Laws.{OneListIsSpelled}
-use Rattle.abc_store.specs.Workspace.{Workspace, empty, changed_by, checkpoint_of}
-use Rattle.abc_store.specs.Opening.{LeadsTo, LeadsNowhere, OpensTo}
+use Rattle.abc_record.specs.Kept.{IsKept}
+use Rattle.abc_store.specs.Workspace.{Workspace, empty, changed_by, unit_of_lines, with_routine, checkpoint_of}
+use Rattle.abc_store.specs.Opening.{LeadsTo, OpensTo}
 use Rattle.abc_store.specs.Commit.{Work, store_full, stored}
 use Rattle.abc_store.proofs.Images.{opens_by}
 
@@ -28,7 +31,7 @@ abbrev pub delete : List Change
 delete = DropTarget (codes "x") ∷ []
 
 abbrev pub x_is : ℕ → Workspace
-x_is n = record { targets = (codes "x", number (whole_number (pos n))) ∷ [] }
+x_is n = record { targets = (codes "x", number (whole_number (pos n))) ∷ []; units = [] }
 
 -- the layout of an image of the first generation, and of a later one in slot 1 or 0
 abbrev pub first_at : ℕ → ℕ → Layout
@@ -97,7 +100,7 @@ unfolding IsRegular IsNumber
 put_is_kept = (((refl, tt), omega arith), inl (refl, omega arith))
 
 one_leads : LeadsTo (spelled (put 1)) empty (x_is 1)
-one_leads = record { changes = put 1; spells = record { kept = (omega arith, (put_is_kept, tt)); bytes_are = refl }; made = refl; limits = omega arith }
+one_leads = record { changes = put 1; spells = record { kept = (omega arith, (put_is_kept, tt)); bytes_are = refl }; made = refl; limits = record { targets = omega arith; units = omega arith } }
 
 -- 101 bytes: x is 1
 one_opens : OpensTo (take 64 fresh_image ++ 1 ∷ behind_gate (spelled (put 1))) (x_is 1)
@@ -105,10 +108,40 @@ unfolding opened read_image settled_image follow live_slot spelled_change spelle
 one_opens =
     opens_by (take 64 fresh_image ++ 1 ∷ behind_gate (spelled (put 1))) (record { layout = first_at 101 100; payloads = spelled (put 1) ∷ [] }) (Ok (x_is 1)) refl (inl (x_is 1, one_leads, refl))
 
--- a unit isn't kept yet
-module _ (one : OneListIsSpelled) where
-  units_lead_nowhere : (payload : List ℕ) (kept : Workspace) (line : Line) (lines : List Line) → IsSpelling (SetUnit (line ∷ lines) ∷ []) payload → LeadsNowhere payload kept
-  units_lead_nowhere payload kept line lines spells later leads =
-      let same : leads.changes ≡ SetUnit (line ∷ lines) ∷ [] = one leads.changes (SetUnit (line ∷ lines) ∷ []) payload leads.spells spells in
-      let made : None ≡ Some later = sym (ap (λ cs. changed_by cs kept) same) ∙ leads.made in
-      cc
+-- ---- units
+
+-- `HOW TO NIL: PASS`, and its unit
+abbrev nil_lines : List Line
+nil_lines = record { indent = 0; text = codes "HOW TO NIL: PASS"; long = false } ∷ []
+
+abbrev nil : Routine
+nil = record {
+  template = record { kind = kind.Command; words = word.Key (codes "NIL") ∷ []; places = 0 };
+  formals = [];
+  names = [];
+  shared = [];
+  body = record { line = 1; node = node.Pass } ∷ [];
+  refinements = [];
+  lines = nil_lines;
+}
+
+-- `HOW TO RETURN one: RETURN 1`
+abbrev one_lines : List Line
+one_lines = record { indent = 0; text = codes "HOW TO RETURN one: RETURN 1"; long = false } ∷ []
+
+-- a unit of these lines with another body takes the place of one, and dropping takes it away by the text of its template
+units_change :
+    (changed_by (DropUnit (codes "NIL") ∷ []) (record { targets = []; units = nil ∷ [] }) ≡ Some empty)
+    × (changed_by (DropUnit (codes "nil") ∷ []) (record { targets = []; units = nil ∷ [] }) ≡ Some (record { targets = []; units = nil ∷ [] }))
+    × ((unit : Routine) → unit_of_lines nil_lines ≡ Some unit → changed_by (SetUnit nil_lines ∷ []) (x_is 1) ≡ Some (record { targets = (codes "x", number (whole_number (pos 1))) ∷ []; units = unit ∷ [] }))
+units_change = (refl, refl, λ unit is. ap (λ found. option_and_then (changed_by []) (option_map (with_routine (x_is 1)) found)) is)
+
+abbrev put_x : Change
+put_x = SetTarget (codes "x") (number (whole_number (pos 1)))
+
+-- the checkpoint of x and a unit: 67 bytes
+checkpoint_with_a_unit : (unit : Routine) → unit.lines ≡ one_lines
+    → checkpoint_of (record { targets = (codes "x", number (whole_number (pos 1))) ∷ []; units = unit ∷ [] })
+    ≡ 0 ∷ 0 ∷ 0 ∷ 2 ∷ 1 ∷ 0 ∷ 0 ∷ 0 ∷ 1 ∷ 120 ∷ 0 ∷ 0 ∷ 0 ∷ 0 ∷ 0 ∷ 0 ∷ 0 ∷ 0 ∷ 0 ∷ 0 ∷ 0 ∷ 0 ∷ 0 ∷ 0 ∷ 0 ∷ 0 ∷ 1 ∷ 3 ∷ 0 ∷ 0 ∷ 0 ∷ 1 ∷ 0 ∷ 0 ∷ 0 ∷ 0 ∷ 0 ∷ 0 ∷ 0 ∷ 27 ∷ codes "HOW TO RETURN one: RETURN 1"
+unfolding checkpoint_of spelled_change spelled_text spelled_number in_four in_sixteen in_eight
+checkpoint_with_a_unit unit is = ap (λ lines. spelled (put_x ∷ SetUnit lines ∷ [])) is

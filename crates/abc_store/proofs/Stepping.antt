@@ -63,6 +63,26 @@ module _ (bounds : Bounds) (layout : Layout) (bytes before after : ℕ) where
   all_done (Err Memory) roomy added new is recorded_is other done = absurd (cc)
   all_done (Err (StoreFull need limit)) roomy added new is recorded_is other done = absurd (cc)
 
+  -- where the record fits as it stands, all goes well
+  fitting : fits bounds layout bytes ≡ true → committed bounds layout bytes before after ≡ Ok (with_due bounds (after_record layout bytes) after)
+  fitting fit =
+      by_record layout (Ok (after_record layout bytes)) (ap (λ (b : Bool). cond b (Ok layout) (checkpointed bounds layout before)) fit)
+      (ap (λ (b : Bool). cond {A = Result Layout Full} b (Ok (after_record layout bytes)) (Err (record { layout = layout; need = need_of layout bytes }))) fit)
+
+  -- so a store is full only where it doesn't
+  pub full_is_unfit : {T : Type 0} (r : Result T AppendFault) (new : Layout) → AnswersTo r new (committed bounds layout bytes before after) → IsFull r → fits bounds layout bytes ≡ false
+  full_is_unfit (Ok x) new a full = absurd full
+  full_is_unfit (Err StoreFault) new a full = absurd full
+  full_is_unfit (Err Memory) new a full = absurd full
+  full_is_unfit (Err (StoreFull need limit)) new a full = by_fit_here (fits bounds layout bytes) refl
+    where
+      none_full : (l : Layout) (f : Full) → Ok l ≡ Err f → ⊥
+      none_full l f e = cc
+
+      by_fit_here : (fit : Bool) → fits bounds layout bytes ≡ fit → fit ≡ false
+      by_fit_here true e = absurd (none_full (with_due bounds (after_record layout bytes) after) a.0 (sym (fitting e) ∙ a.1))
+      by_fit_here false e = refl
+
 -- what is kept is not refused
 no_refusal : (later : Workspace) (layout : Layout) (refusal : Refusal) → kept_in later (Ok layout) ≡ Err refusal → ⊥
 no_refusal later layout refusal e = cc

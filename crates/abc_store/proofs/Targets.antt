@@ -1,12 +1,11 @@
 -- Changes of targets: what they make, and that those of a workspace can be spelled.
 use Rattle.std.proofs.Common.{◌≡◌, ℕ, zero, suc, ◌+◌, ◌*◌, ◌^◌, ◌<◌, ◌≤◌, length, map, Bool, true, false, cond, ◌||◌, is_some, List, [], ◌∷◌, ◌++◌, Option, None, Some, refl, sym, ap, ◌∙◌, subst, arith, length-append}
 use Rattle.std.specs.Prelude.{Result, Ok, Err, IfOk}
-use Rattle.std.specs.List.{flat_map, AllByRecursion}
+use Rattle.std.specs.List.{AllByRecursion}
 use Rattle.std.specs.List.Sorted.{IsStrictlySortedBy}
 use Rattle.std.specs.declared.cmp.Ordering.{Ordering}
 use Rattle.std.specs.declared.cmp.Ordering.TheVariants.{Less, Equal, Greater}
 use Rattle.std.specs.Ordering.{is_eq, match_ordering}
-use Rattle.std.proofs.lemmas.List.{take_all}
 use Rattle.std.proofs.lemmas.List.Concat.{flat_map-cons}
 use Rattle.abc_num.specs.Text.{text_cmp}
 use Rattle.abc_value.specs.Tree.{Tree}
@@ -17,30 +16,33 @@ use Rattle.abc_frames.specs.inner.Merging.{History, front_of, behind, IsRegularI
 use Rattle.abc_frames.proofs.Merging.{IsFront, kept, first, front, front_changes, rising_behind}
 use Rattle.abc_frames.proofs.Applying.{all_applied, fewer, regular_behind}
 use Rattle.abc_record.specs.declared.change.Change.{Change}
-use Rattle.abc_record.specs.declared.change.Change.TheVariants.{SetTarget, DropTarget, SetUnit, DropUnit}
-use Rattle.abc_record.specs.Spelling.{spelled_change, spelled_changes, spelled}
+use Rattle.abc_record.specs.Spelling.{spelled_change, spelled_changes}
 use Rattle.abc_record.specs.Kept.{IsKeptName, IsKept, AreKept}
-use Rattle.abc_record.proofs.Weights.{set_target_long, all_long}
-use Rattle.abc_store.specs.Workspace.{Workspace, empty, changed_by, IsWithinLimits, AreNamed, set_target, everything, checkpoint_of, as_change, changes_between}
-use Rattle.abc_store.specs.Opening.{LeadsTo}
-use Rattle.abc_store.specs.inner.Steps.{IsSpellable, IsCheckpoint}
+use Rattle.abc_record.proofs.Weights.{set_target_long}
+use Rattle.abc_num.specs.declared.limits.TheConstants.{MOST_TARGETS}
+use Rattle.abc_store.specs.Workspace.{Workspace, empty, changed_by, AreNamed, set_target, as_change, with_targets, changes_between}
 
 -- ---- what changes make
 
-by_state : (name : List ℕ) (value : Option Tree) (cs : List TargetChange) (ws : Workspace)
-    → ((later : Workspace) → changed_by (map as_change cs) later ≡ Some (record { targets = applied cs later.targets }))
-    → changed_by (map as_change (record { name = name; value = value } ∷ cs)) ws ≡ Some (record { targets = applied (record { name = name; value = value } ∷ cs) ws.targets })
-by_state name None cs ws later = later (record { targets = without name ws.targets })
-by_state name (Some value) cs ws later = later (record { targets = with_value name value ws.targets })
+by_state : (name : List ℕ) (value : Option Tree) (cs : List TargetChange) (ws : Workspace) → ((later : Workspace) → changed_by (map as_change cs) later ≡ Some (with_targets later (applied cs later.targets)))
+    → changed_by (map as_change (record { name = name; value = value } ∷ cs)) ws ≡ Some (with_targets ws (applied (record { name = name; value = value } ∷ cs) ws.targets))
+by_state name None cs ws later = later (with_targets ws (without name ws.targets))
+by_state name (Some value) cs ws later = later (with_targets ws (with_value name value ws.targets))
 
-all_told : (cs : List TargetChange) (ws : Workspace) → changed_by (map as_change cs) ws ≡ Some (record { targets = applied cs ws.targets })
+all_told : (cs : List TargetChange) (ws : Workspace) → changed_by (map as_change cs) ws ≡ Some (with_targets ws (applied cs ws.targets))
 all_told [] ws = refl
 all_told (c ∷ cs) ws = by_state c.name c.value cs ws (all_told cs)
 
-pub lead_there : (before after : Workspace) → AreRising before.targets → AreRising after.targets → AreRegular before.targets → AreRegular after.targets
+-- the changes between targets lead to these, with the units that are there
+pub lead_to_targets : (before : Workspace) (after : Targets) → AreRising before.targets → AreRising after → AreRegular before.targets → AreRegular after
+    → changed_by (changes_between before (with_targets before after)) before ≡ Some (with_targets before after)
+lead_to_targets before after s t r q =
+    all_told (changes_of before.targets after) before ∙ ap (λ (ts : Targets). Some (with_targets before ts)) (all_applied before.targets after s t r q)
+
+pub lead_there : (before after : Workspace) → AreRising before.targets → AreRising after.targets → AreRegular before.targets → AreRegular after.targets → before.units ≡ after.units
     → changed_by (changes_between before after) before ≡ Some after
-lead_there before after s t r q =
-    all_told (changes_of before.targets after.targets) before ∙ ap (λ (ts : Targets). Some (record { targets = ts })) (all_applied before.targets after.targets s t r q)
+lead_there before after s t r q units =
+    lead_to_targets before after.targets s t r q ∙ ap (λ us. Some (record { targets = after.targets; units = us })) units
 
 -- all targets, told of none
 pub all_of_none : (ts : Targets) → AreRising ts → map as_change (changes_of [] ts) ≡ map set_target ts
@@ -50,10 +52,10 @@ all_of_none (e ∷ es) s =
     ap (map as_change) (front_changes [] (e ∷ es) (e.0, None, Some e.1) [] es (record { before_is = refl; after_is = refl; below_olds = tt; below_news = s.0; some = refl }) tt)
     ∙ ap (λ (cs : List Change). set_target e ∷ cs) (all_of_none es s.1)
 
-pub all_made : (ws : Workspace) → AreRising ws.targets → AreRegular ws.targets → changed_by (everything ws) empty ≡ Some ws
+pub all_set : (targets : Targets) → AreRising targets → AreRegular targets → changed_by (map set_target targets) empty ≡ Some (record { targets = targets; units = [] })
 unfolding IsStrictlySortedBy
-all_made ws s r =
-    ap (λ (cs : List Change). changed_by cs empty) (sym (all_of_none ws.targets s)) ∙ lead_there empty ws tt s tt r
+all_set targets s r =
+    ap (λ (cs : List Change). changed_by cs empty) (sym (all_of_none targets s)) ∙ lead_to_targets empty targets tt s tt r
 
 -- ---- names stay those that can be spelled
 
@@ -71,34 +73,21 @@ left_named : (b : Bool) (e : List ℕ × Tree) (es later : Targets) → IsKeptNa
 left_named true e es later f a l = a
 left_named false e es later f a l = (f, l)
 
-named_without : (k : List ℕ) (ts : Targets) → AreNamed ts → AreNamed (without k ts)
+pub named_without : (k : List ℕ) (ts : Targets) → AreNamed ts → AreNamed (without k ts)
 named_without k [] a = tt
 named_without k (e ∷ es) a = left_named (is_eq (text_cmp k e.0)) e es (without k es) a.0 a.1 (named_without k es a.1)
 
-pub named_after : (cs : List Change) (ws later : Workspace) → AllByRecursion IsKept cs → AreNamed ws.targets → changed_by cs ws ≡ Some later → AreNamed later.targets
-named_after [] ws later k a e = let same : ws ≡ later = cc in subst (λ (w : Workspace). AreNamed w.targets) same a
-named_after (SetTarget name value ∷ cs) ws later k a e = named_after cs (record { targets = with_value name value ws.targets }) later k.1 (named_with name value ws.targets k.0.0 a) e
-named_after (DropTarget name ∷ cs) ws later k a e = named_after cs (record { targets = without name ws.targets }) later k.1 (named_without name ws.targets a) e
-named_after (SetUnit lines ∷ cs) ws later k a e = absurd (cc)
-named_after (DropUnit template ∷ cs) ws later k a e = absurd (cc)
-
-pub spellable_after : (cs : List Change) (ws new : Workspace) → AreKept cs → IsSpellable ws → changed_by cs ws ≡ Some new → (later : Workspace) × (changed_by cs ws ≡ Some later) × IsWithinLimits later → IsSpellable new
-spellable_after cs ws new k s e l =
-    let both : Some l.0 ≡ Some new = sym l.1 ∙ e in
-    let same : l.0 ≡ new = cc in
-    (named_after cs ws new k.1 s.0 e, subst IsWithinLimits same l.2)
-
 -- ---- all targets are spelled
 
-each_kept : (ts : Targets) → AreNamed ts → AreRegular ts → AllByRecursion IsKept (map set_target ts)
+pub each_kept : (ts : Targets) → AreNamed ts → AreRegular ts → AllByRecursion IsKept (map set_target ts)
 each_kept [] a r = tt
 each_kept (e ∷ es) a r = ((a.0, r.0), each_kept es a.1 r.1)
 
-so_many : (ts : Targets) → length (map set_target ts) ≡ length ts
+pub so_many : (ts : Targets) → length (map set_target ts) ≡ length ts
 so_many [] = refl
 so_many (e ∷ es) = ap suc (so_many es)
 
-all_short : (ts : Targets) → AreNamed ts → AreRegular ts → length (spelled_changes (map set_target ts)) ≤ length ts * (5 + 4096 + 2 ^ 28)
+pub all_short : (ts : Targets) → AreNamed ts → AreRegular ts → length (spelled_changes (map set_target ts)) ≤ length ts * (5 + 4096 + 2 ^ 28)
 all_short [] a r = omega arith
 all_short (e ∷ es) a r =
     omega (
@@ -110,20 +99,6 @@ all_short (e ∷ es) a r =
       a.0.1,
       (regular_sizes e.1 r.0).1,
     )
-
-pub all_kept : (ws : Workspace) → IsSpellable ws → AreRegular ws.targets → AreKept (everything ws)
-all_kept ws s r = (omega (arith, so_many ws.targets, s.1), each_kept ws.targets s.0 r)
-
-pub all_fit : (ws : Workspace) → IsSpellable ws → AreRegular ws.targets → length (spelled (everything ws)) < 2 ^ 64
-all_fit ws s r = omega (arith, all_short ws.targets s.0 r, s.1, counted_spelled (everything ws))
-  where
-    counted_spelled : (cs : List Change) → length (spelled cs) ≡ 4 + length (spelled_changes cs)
-    counted_spelled cs = sym (all_long cs (length cs) (omega arith)) ∙ ap (λ (ds : List Change). 4 + length (flat_map spelled_change ds)) (take_all (length cs) cs (omega arith))
-
--- a checkpoint of a workspace leads to it from the empty one
-pub checkpoint_leads : (ws : Workspace) → IsSpellable ws → AreRising ws.targets → AreRegular ws.targets → LeadsTo (checkpoint_of ws) empty ws
-unfolding checkpoint_of
-checkpoint_leads ws s rising r = record { changes = everything ws; spells = record { kept = all_kept ws s r; bytes_are = refl }; made = all_made ws rising r; limits = s.1 }
 
 -- ---- the changes between two workspaces are spelled
 
@@ -185,11 +160,11 @@ told_many : (cs : List TargetChange) → length (map as_change cs) ≡ length cs
 told_many [] = refl
 told_many (c ∷ cs) = ap suc (told_many cs)
 
-pub between_kept : (before after : Workspace) → IsSpellable before → IsSpellable after → AreRising before.targets → AreRising after.targets → AreRegular before.targets → AreRegular after.targets
-    → AreKept (changes_between before after)
-between_kept before after a b s t r q =
-    let all = by_front (suc (length before.targets + length after.targets)) before.targets after.targets (omega arith) s t a.0 b.0 r q (front_of (first before.targets) (first after.targets)) refl in
-    (omega (arith, told_many (changes_of before.targets after.targets), all.few, a.1, b.1), all.each)
+pub between_kept : (before after : Targets) → AreNamed before → AreNamed after → length before ≤ MOST_TARGETS → length after ≤ MOST_TARGETS → AreRising before → AreRising after → AreRegular before → AreRegular after
+    → AreKept (map as_change (changes_of before after))
+between_kept before after a b few most s t r q =
+    let all = by_front (suc (length before + length after)) before after (omega arith) s t a b r q (front_of (first before) (first after)) refl in
+    (omega (arith, told_many (changes_of before after), all.few, few, most), all.each)
 
 -- ---- what calls give
 
@@ -198,18 +173,12 @@ pub all_given : {A E : Type 0} (items : A → List Change) (r : Result A E) (cs 
 all_given items (Ok v) cs ts e told s = e ∙ ap (map as_change) told ∙ all_of_none ts s
 all_given items (Err f) cs ts e told s = tt
 
-pub checkpoint_given : {A E : Type 0} (items : A → List ℕ) (r : Result A E) (cs : List Change) (ws : Workspace) → IfOk r (λ v. items v ≡ spelled cs) → cs ≡ everything ws → LeadsTo (checkpoint_of ws) empty ws
-    → IfOk r (λ v. IsCheckpoint (items v) ws)
-unfolding checkpoint_of
-checkpoint_given items (Ok v) cs ws e told leads = let is : items v ≡ checkpoint_of ws = e ∙ ap spelled told in (is, subst (λ (p : List ℕ). LeadsTo p empty ws) (sym is) leads)
-checkpoint_given items (Err f) cs ws e told leads = tt
-
-pub lead_given : {A E : Type 0} (items : A → List Change) (r : Result A E) (cs : List TargetChange) (before after : Workspace) → IfOk r (λ v. items v ≡ map as_change cs) → cs ≡ changes_of before.targets after.targets
-    → AreRising before.targets × AreRising after.targets → AreRegular before.targets × AreRegular after.targets → IfOk r (λ v. changed_by (items v) before ≡ Some after)
-lead_given items (Ok v) cs before after e told s r = ap (λ ds. changed_by ds before) (e ∙ ap (map as_change) told) ∙ lead_there before after s.0 s.1 r.0 r.1
+pub lead_given : {A E : Type 0} (items : A → List Change) (r : Result A E) (cs : List TargetChange) (before : Workspace) (after : Targets) → IfOk r (λ v. items v ≡ map as_change cs) → cs ≡ changes_of before.targets after
+    → AreRising before.targets × AreRising after → AreRegular before.targets × AreRegular after → IfOk r (λ v. changed_by (items v) before ≡ Some (with_targets before after))
+lead_given items (Ok v) cs before after e told s r = ap (λ ds. changed_by ds before) (e ∙ ap (map as_change) told) ∙ lead_to_targets before after s.0 s.1 r.0 r.1
 lead_given items (Err f) cs before after e told s r = tt
 
-pub kept_given : {A E : Type 0} (items : A → List Change) (r : Result A E) (cs : List TargetChange) (before after : Workspace) → IfOk r (λ v. items v ≡ map as_change cs) → cs ≡ changes_of before.targets after.targets
-    → IsSpellable before → IsSpellable after → AreRising before.targets × AreRising after.targets → AreRegular before.targets × AreRegular after.targets → IfOk r (λ v. AreKept (items v))
-kept_given items (Ok v) cs before after e told a b s r = subst AreKept (sym (e ∙ ap (map as_change) told)) (between_kept before after a b s.0 s.1 r.0 r.1)
-kept_given items (Err f) cs before after e told a b s r = tt
+pub kept_given : {A E : Type 0} (items : A → List Change) (r : Result A E) (cs : List TargetChange) (before after : Targets) → IfOk r (λ v. items v ≡ map as_change cs) → cs ≡ changes_of before after
+    → AreNamed before × AreNamed after → (length before ≤ MOST_TARGETS) × (length after ≤ MOST_TARGETS) → AreRising before × AreRising after → AreRegular before × AreRegular after → IfOk r (λ v. AreKept (items v))
+kept_given items (Ok v) cs before after e told n l s r = subst AreKept (sym (e ∙ ap (map as_change) told)) (between_kept before after n.0 n.1 l.0 l.1 s.0 s.1 r.0 r.1)
+kept_given items (Err f) cs before after e told n l s r = tt

@@ -3,7 +3,12 @@ use Rattle.std.specs.Prelude.{◌≡◌, ℕ, List, Some, Result}
 use Rattle.abc_outside.specs.Stop.{Extends}
 use Rattle.abc_journal.specs.Image.{settled_image}
 use Rattle.abc_frames.specs.Maps.{AreRising, AreRegular}
-use Rattle.abc_store.specs.Workspace.{Workspace, empty, changed_by, changes_between, checkpoint_of, IsWithinLimits, AreNamed}
+use Rattle.abc_tree.specs.Units.{AreRising as AreInOrder}
+use Rattle.abc_num.specs.declared.lines.Line.{Line}
+use Rattle.abc_tree.specs.declared.commands.Item.TheVariants as item
+use Rattle.abc_tree.specs.declared.commands.Unit.{Unit as Routine}
+use Rattle.abc_parse.specs.Readings.{item_of}
+use Rattle.abc_store.specs.Workspace.{Workspace, empty, changed_by, changes_between, checkpoint_of, IsWithinLimits, AreNamed, AreKeptUnits, unit_of_lines}
 use Rattle.abc_store.specs.Opening.{LeadsTo, Opens, OpensTo}
 use Rattle.abc_store.specs.Commit.{Work, Holds}
 
@@ -21,9 +26,14 @@ SettledOpensToo = (image : List ℕ) (found : Result Workspace ℕ) → Opens im
 
 -- a checkpoint of a workspace makes it of the empty one
 abbrev pub CheckpointsHoldAll : Type 0
-CheckpointsHoldAll = (kept : Workspace) → AreRising kept.targets → AreRegular kept.targets → AreNamed kept.targets → IsWithinLimits kept → LeadsTo (checkpoint_of kept) empty kept
+CheckpointsHoldAll = (kept : Workspace) → AreRising kept.targets → AreRegular kept.targets → AreNamed kept.targets → AreInOrder kept.units → AreKeptUnits kept.units
+    → IsWithinLimits kept → LeadsTo (checkpoint_of kept) empty kept
 
--- the changes between two workspaces lead from one to the other
+-- the changes between two workspaces with the same units lead from one to the other
 abbrev pub ChangesLeadThere : Type 0
-ChangesLeadThere = (before after : Workspace) → AreRising before.targets → AreRising after.targets → AreRegular before.targets → AreRegular after.targets
+ChangesLeadThere = (before after : Workspace) → AreRising before.targets → AreRising after.targets → AreRegular before.targets → AreRegular after.targets → before.units ≡ after.units
     → changed_by (changes_between before after) before ≡ Some after
+
+-- what an item that is a unit spells is what its lines put, whatever targets there are
+abbrev pub UnitsAreSet : Type 0
+UnitsAreSet = (lines : List Line) (targets : List (List ℕ)) (unit : Routine) → item_of lines targets ≡ Some (item.Unit unit) → (unit_of_lines lines ≡ Some unit) × (unit.lines ≡ lines)

@@ -1,6 +1,7 @@
 //! Laws of images and workspaces, for the crates above.
-ghost use Rattle.abc_store.specs.Laws.{OpensToOne, LongerOpensToo, SettledOpensToo, CheckpointsHoldAll, ChangesLeadThere};
+ghost use Rattle.abc_store.specs.Laws.{OpensToOne, LongerOpensToo, SettledOpensToo, CheckpointsHoldAll, ChangesLeadThere, UnitsAreSet};
 
+use abc_parse::{computed_item, unit_alone};
 use abc_record::laws::spellings_are_told_apart;
 
 /// An image opens to one workspace or is wrong at one place, and what stands past its end means nothing. The image that a short one
@@ -18,3 +19,11 @@ pub fn changes_lead_there()
     ensures checkpoints { CheckpointsHoldAll }
     ensures between { ChangesLeadThere }
 {}
+
+/// A unit that an item spells is the one that its lines put in a workspace.
+pub fn units_are_set()
+    ensures { UnitsAreSet }
+{
+    computed_item();
+    unit_alone();
+}

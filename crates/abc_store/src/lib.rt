@@ -2,8 +2,10 @@
 #![tactic(auto)]
 
 mod changing;
+mod contents;
 mod due;
 mod faults;
+mod later;
 pub mod laws;
 mod opening;
 mod plan;

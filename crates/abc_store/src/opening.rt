@@ -1,36 +1,35 @@
-//! The targets that the records of an image make.
+//! What the records of an image make.
 ghost use Rattle.std.specs.Prelude.{◌≡◌, ◌+◌, ◌-◌, ◌^◌, ℕ, min, true, false, Ok, Err, IfOk, IsErrOf};
 ghost use Rattle.abc_journal.specs.Journal.{IfNotAStore};
 ghost use Rattle.abc_store.specs.Workspace.{Workspace, empty};
 ghost use Rattle.abc_store.specs.Opening.{LeadsTo, LeadsNowhere, Make};
 
 use crate::changing::make_all;
-use abc_frames::Targets;
+use crate::contents::Contents;
 use abc_journal::BeginFault;
 use abc_journal::format::RECORD_EXTRA;
-use abc_num::limits::MOST_TARGETS;
 use abc_num::{OutOfMemory, Text};
 use abc_record::{RecordFault, read_changes};
 use std::alloc::Global;
 
-/// The targets after the records of these payloads, the first of which has its gate at `start`. Each change is made once.
+/// The contents after the records of these payloads, the first of which has its gate at `start`. Each change is made once.
 ///
 /// Errors: `NotAStore` with the place of the gate of the first record that spells no changes which can be made, or after which there
-/// are too many targets; a place past 2^64 - 1, which no image has, is told as that. `Memory`.
-pub(crate) fn replay(alloc: Global, start: u64, payloads: &[Text]) -> Result<Targets, BeginFault>
-    ensures made { IfOk result (λ targets. Make start empty payloads.now (Ok (record { targets = targets }))) }
+/// are too many targets or units; a place past 2^64 - 1, which no image has, is told as that. `Memory`.
+pub(crate) fn replay(alloc: Global, start: u64, payloads: &[Text]) -> Result<Contents, BeginFault>
+    ensures made { IfOk result (λ contents. Make start empty payloads.now (Ok contents)) }
     ensures refused { IfNotAStore result (λ at. (gate : ℕ) × Make start empty payloads.now (Err gate) × (at ≡ min gate (2 ^ 64 - 1))) }
     ensures no_fault { IsErrOf result BeginFault.StoreFault → ⊥ }
 {
-    let mut targets = Targets::new(alloc);
+    let mut contents = Contents::new(alloc);
     let mut gate = start;
     for payload in payloads {
-        if !follow(alloc, &mut targets, payload.bytes())? {
+        if !follow(alloc, &mut contents, payload.bytes())? {
             return Err(BeginFault::NotAStore { at: gate });
         }
         gate = gate_behind(gate, payload.bytes().len());
     }
-    Ok(targets)
+    Ok(contents)
 }
 
 /// The place of the next gate.
@@ -41,19 +40,19 @@ fn gate_behind(gate: u64, bytes: usize) -> u64
         .saturating_add(bytes as u64)
 }
 
-/// Makes the changes of a record. False where it spells none that can be made, or more targets are there after it than a
-/// workspace may have.
-fn follow(alloc: Global, targets: &mut Targets, payload: &[u8]) -> Result<bool, OutOfMemory>
-    ensures leads { IfOk result (λ leads. leads ≡ true → LeadsTo payload.now (record { targets = targets.old }) (record { targets = targets.new })) }
-    ensures nowhere { IfOk result (λ leads. leads ≡ false → LeadsNowhere payload.now (record { targets = targets.old })) }
+/// Makes the changes of a record. False where it spells none that can be made, or more is there after it than a workspace may
+/// have.
+fn follow(alloc: Global, contents: &mut Contents, payload: &[u8]) -> Result<bool, OutOfMemory>
+    ensures leads { IfOk result (λ leads. leads ≡ true → LeadsTo payload.now contents.old contents.new) }
+    ensures nowhere { IfOk result (λ leads. leads ≡ false → LeadsNowhere payload.now contents.old) }
 {
     let changes = match read_changes(alloc, payload) {
         Ok(changes) => changes,
         Err(RecordFault::BadRecord { .. }) => return Ok(false),
         Err(RecordFault::Memory) => return Err(OutOfMemory),
     };
-    if !make_all(targets, changes)? {
+    if !make_all(contents, changes)? {
         return Ok(false);
     }
-    Ok(targets.len() <= MOST_TARGETS)
+    Ok(contents.is_within_limits())
 }

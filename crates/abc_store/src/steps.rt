@@ -177,6 +177,8 @@ pub(crate) fn write_all<H: Host>(
         → OpensTo (H.now host.old).image kept → OnOk result (OpensTo (H.now host.new).image later) }
     ensures full_opens { H.tells_image → (kept later : Workspace) → IsPlan journal.old.bounds journal.old.layout payload.now (option_map (λ p. p.now) before.entry) (option_map (λ p. p.now) after.entry) kept later
         → OpensTo (H.now host.old).image kept → IsFull result → OpensTo (H.now host.new).image kept }
+    ensures unfit { (kept later : Workspace) → IsPlan journal.old.bounds journal.old.layout payload.now (option_map (λ p. p.now) before.entry) (option_map (λ p. p.now) after.entry) kept later
+        → IsFull result → fits journal.old.bounds journal.old.layout (length payload.now) ≡ false }
     ensures fault { IsErrOf result AppendFault.StoreFault → RoseByOne (H.now host.old).store_faults (H.now host.new).store_faults }
     ensures faultless { IsNoFault result → (H.now host.new).store_faults ≡ (H.now host.old).store_faults }
     ensures no_memory { IsErrOf result AppendFault.Memory → ⊥ }

@@ -1,17 +1,19 @@
 //! The store: a workspace, and the journal that keeps it.
-ghost use Rattle.std.specs.Prelude.{◌≡◌, ◌⊎◌, ◌≤◌, ◌<◌, false, List, ℕ, length, IfOk, OnOk, IsErrOf, IsTrue, Ok, Err, Some};
+ghost use Rattle.std.specs.Prelude.{◌≡◌, ◌⊎◌, ◌≤◌, ◌<◌, false, List, ℕ, length, IfOk, OnOk, IsErrOf, IsTrue, true, option_map, Ok, Err, Some};
 ghost use Rattle.abc_outside.specs.Outside.{RoseByOne, KeepsButStore};
 ghost use Rattle.abc_outside.specs.Stop.{Leaves, IsQuiet};
-ghost use Rattle.abc_frames.specs.Maps.{AreRising};
+ghost use Rattle.abc_tree.specs.Units.{AreRising as AreInOrder};
+ghost use Rattle.abc_num.specs.declared.limits.TheConstants.{MOST_UNITS};
 ghost use Rattle.abc_journal.specs.Image.{settled_image};
 ghost use Rattle.abc_journal.specs.Journal.{BeginsQuiet, IfNotAStore, IsNotAStore};
 ghost use Rattle.abc_record.specs.Kept.{AreKept};
-ghost use Rattle.abc_store.specs.Workspace.{Workspace, changed_by, changes_between, IsWithinLimits, AreNamed};
+ghost use Rattle.abc_store.specs.Workspace.{Workspace, changed_by, changes_between, with_targets, with_routine, unit_named, IsWithinLimits, AreNamed, AreKeptUnits};
 ghost use Rattle.abc_store.specs.Opening.{Opens, OpensTo};
 ghost use Rattle.abc_store.specs.Commit.{Holds, Refusal, stored, work_after, Tells, IsNoFault, IsDecided, IsTooLarge, IsStoreFull, StillOpens, OpensToEither};
 ghost use Rattle.abc_store.specs.View.{work_of};
 
 use crate::CommitFault;
+use crate::contents::Contents;
 use crate::opening::replay;
 use crate::plan::{Plan, prepare};
 use crate::steps::write_all;
@@ -22,6 +24,7 @@ use abc_num::OutOfMemory;
 use abc_num::limits::MOST_RECORD_BYTES;
 use abc_outside::Host;
 use abc_record::{Change, size_of};
+use abc_tree::{Unit, Units};
 use std::alloc::Global;
 use std::marker::Model;
 
@@ -32,7 +35,7 @@ pub struct Store {
     journal: Journal,
     /// The bound on checkpoints, which the journal has too.
     checkpoint: u64,
-    targets: Targets,
+    contents: Contents,
 }
 
 impl Model for Store {
@@ -41,14 +44,16 @@ impl Model for Store {
     ghost use Rattle.abc_frames.specs.View.{coded_targets};
     ghost use Rattle.abc_store.specs.View.{View};
     ghost use Rattle.abc_store.specs.inner.Steps.{IsSpellable};
+    ghost use Rattle.abc_tree.specs.contracts.formulas.Bound as bound;
+    ghost use Rattle.abc_tree.specs.contracts.commands.Action as action;
 
     ghost Value = { View };
 
-    ghost coded = { Prim.hlevel (codes, coded_targets) };
+    ghost coded = { Prim.hlevel (codes, coded_targets, bound.the_row.coded, action.the_row.coded) };
 
-    ghost view = { λ s. record { kept = record { targets = s.targets }; layout = s.journal.layout; bounds = s.journal.bounds; sound = s.journal.sound } };
+    ghost view = { λ s. record { kept = s.contents; layout = s.journal.layout; bounds = s.journal.bounds; sound = s.journal.sound } };
 
-    ghost invariant = { λ s. IsSpellable (record { targets = s.targets }) × (s.journal.bounds.checkpoint ≡ s.checkpoint) };
+    ghost invariant = { λ s. IsSpellable s.contents × (s.journal.bounds.checkpoint ≡ s.checkpoint) };
 }
 
 impl Store {
@@ -85,11 +90,11 @@ impl Store {
             Err(fault) => return Err(fault),
         };
         match replay(alloc, journal.layout().start, &payloads) {
-            Ok(targets) => Ok(Store {
+            Ok(contents) => Ok(Store {
                 alloc,
                 journal,
                 checkpoint: b.checkpoint,
-                targets,
+                contents,
             }),
             Err(fault) => Err(fault),
         }
@@ -101,7 +106,32 @@ impl Store {
         ensures named { AreNamed self.now.kept.targets }
         ensures limits { IsWithinLimits self.now.kept }
     {
-        &self.targets
+        self.contents.targets()
+    }
+
+    /// The units, in the order of their templates.
+    pub fn units(&self) -> &Units
+        ensures units { result.now ≡ self.now.kept.units }
+        ensures in_order { AreInOrder self.now.kept.units }
+        ensures kept { AreKeptUnits self.now.kept.units }
+        ensures limits { IsWithinLimits self.now.kept }
+    {
+        self.contents.units()
+    }
+
+    /// The unit whose template is written so, if there is one. The search takes memory for one template.
+    pub fn unit(&self, template: &[u8]) -> Result<Option<&Unit>, OutOfMemory>
+        ensures { IfOk result (λ found. option_map (λ unit. unit.now) found ≡ unit_named template.now self.now.kept.units) }
+    {
+        self.contents.unit(template)
+    }
+
+    /// Whether there may be this unit too, in place of one with its template or beside the others.
+    pub fn has_room_for(&self, unit: &Unit) -> bool
+        ensures room { result ≡ true → IsWithinLimits (with_routine self.now.kept unit.now) }
+        ensures none { result ≡ false → MOST_UNITS < length (with_routine self.now.kept unit.now).units }
+    {
+        self.contents.has_room_for(unit)
     }
 
     /// Targets equal to those of the store, for an item to change.
@@ -109,17 +139,17 @@ impl Store {
         ensures { IfOk result (λ targets. targets ≡ self.now.kept.targets) }
     {
         let mut targets = Targets::new(self.alloc);
-        targets.back(self.targets.keep()?);
+        targets.back(self.contents.targets().keep()?);
         Ok(targets)
     }
 
     /// The changes that lead from the targets of the store to these, in order of the names.
     pub fn changes(&self, working: &Targets) -> Result<Vec<Change>, OutOfMemory>
-        ensures changes { IfOk result (λ changes. changes.items ≡ changes_between self.now.kept (record { targets = working.now })) }
-        ensures lead { IfOk result (λ changes. changed_by changes.items self.now.kept ≡ Some (record { targets = working.now })) }
-        ensures kept { AreNamed working.now → IsWithinLimits (record { targets = working.now }) → IfOk result (λ changes. AreKept changes.items) }
+        ensures changes { IfOk result (λ changes. changes.items ≡ changes_between self.now.kept (with_targets self.now.kept working.now)) }
+        ensures lead { IfOk result (λ changes. changed_by changes.items self.now.kept ≡ Some (with_targets self.now.kept working.now)) }
+        ensures kept { AreNamed working.now → IsWithinLimits (with_targets self.now.kept working.now) → IfOk result (λ changes. AreKept changes.items) }
     {
-        let before = self.targets.keep()?;
+        let before = self.contents.targets().keep()?;
         as_changes(self.alloc, working.changes(&before)?)
     }
 
@@ -193,11 +223,11 @@ impl Store {
             payload,
             before,
             after,
-            targets,
+            later,
         } = prepare(
             self.alloc,
             &mut self.journal,
-            &self.targets,
+            &mut self.contents,
             self.checkpoint,
             changes,
         )?;
@@ -210,7 +240,7 @@ impl Store {
             after.as_deref(),
         ) {
             Ok(()) => {
-                self.targets = targets;
+                later.take_place(&mut self.contents);
                 Ok(())
             }
             Err(fault) => Err(CommitFault::from(fault)),

@@ -6,6 +6,8 @@ ghost use Rattle.abc_store.specs.Workspace.{Workspace, changed_by, IsWithinLimit
 ghost use Rattle.abc_store.specs.Commit.{Holds};
 ghost use Rattle.abc_store.specs.View.{work_of};
 
+mod units;
+
 use crate::{CommitFault, Store};
 use abc_journal::Bounds;
 use abc_num::limits::MOST_TARGETS;
@@ -38,6 +40,23 @@ fn put(alloc: Global, store: &Store, n: i64) -> Result<Vec<Change>, OutOfMemory>
     store.changes(&working)
 }
 
+/// Keeps changes, and tells the size of the image then.
+fn commit(
+    store: &mut Store,
+    host: &mut MemoryHost,
+    changes: Vec<Change>,
+) -> Result<usize, CommitFault>
+    requires sound { IsTrue store.old.sound }
+    requires holds { Holds (outside_of host.old).image (work_of store.old) }
+    requires kept { AreKept changes.items }
+    requires later { (later : Workspace) × (changed_by changes.items store.old.kept ≡ Some later) × IsWithinLimits later }
+    ensures sound { OnOk result (IsTrue store.new.sound) }
+    ensures holds { OnOk result (Holds (outside_of host.new).image (work_of store.new)) }
+{
+    store.commit(host, changes)?;
+    Ok(host.image().len())
+}
+
 /// Serves `PUT n IN x`, and tells the size of the image then.
 fn keep(
     alloc: Global,
@@ -51,8 +70,7 @@ fn keep(
     ensures holds { OnOk result (Holds (outside_of host.new).image (work_of store.new)) }
 {
     let changes = put(alloc, store, n)?;
-    store.commit(host, changes)?;
-    Ok(host.image().len())
+    commit(store, host, changes)
 }
 
 /// Serves four of them.

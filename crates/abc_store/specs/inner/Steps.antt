@@ -8,12 +8,14 @@ use Rattle.abc_journal.specs.Journal.{need_of, after_record}
 use Rattle.abc_journal.specs.Commit.{is_due}
 use Rattle.abc_store.specs.declared.faults.CommitFault.{CommitFault}
 use Rattle.abc_store.specs.declared.faults.CommitFault.TheVariants as commit
-use Rattle.abc_store.specs.Workspace.{Workspace, empty, checkpoint_of, IsWithinLimits, AreNamed}
+use Rattle.abc_store.specs.Workspace.{Workspace, empty, checkpoint_of, IsWithinLimits, AreNamed, AreKeptUnits}
 use Rattle.abc_store.specs.Opening.{LeadsTo}
 
 -- a workspace that changes can spell
-abbrev pub IsSpellable : Workspace → Type 0
-IsSpellable kept = AreNamed kept.targets × IsWithinLimits kept
+pub record IsSpellable (kept : Workspace) : Type 0 where
+  pub named : AreNamed kept.targets
+  pub units : AreKeptUnits kept.units
+  pub limits : IsWithinLimits kept
 
 -- every answer of the journal but a fault of the store
 abbrev pub IsNoFault : {T : Type 0} → Result T AppendFault → Type 0

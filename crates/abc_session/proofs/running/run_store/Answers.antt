@@ -6,50 +6,52 @@ use Rattle.abc_outside.specs.Stop.{Leaves}
 use Rattle.abc_outside.proofs.Leaves.{run_after}
 use Rattle.abc_turns.specs.Session.{replies, output, works, last_work, waiting}
 use Rattle.abc_turns.specs.Stops.{IsBetween, IsBroken, IsCutShort}
-use Rattle.abc_session.specs.Asking.{Asked}
-use Rattle.abc_session.specs.Session.{Work, session_of}
-use Rattle.abc_session.specs.Serving.{work_of, Holds, OpensTo, IsSessionPoint}
+use Rattle.abc_reader.specs.Asking.{Asked}
+use Rattle.abc_store.specs.Commit.{Work, Holds}
+use Rattle.abc_store.specs.View.{work_of}
+use Rattle.abc_session.specs.Session.{session_of}
+use Rattle.abc_session.specs.Serving.{OpensTo, IsSessionPoint}
 use Rattle.abc_session.specs.Settled.{AsksSettled, IsWaiting}
 use Rattle.abc_session.specs.Run.{IsStart, HasEnded}
 use Rattle.abc_session.specs.declared.session.SessionStop.TheVariants as session
 use Rattle.abc_session.specs.declared.status.TheConstants.{INPUT_FAULT, INPUT_TOO_LONG}
 use Rattle.abc_session.proofs.Broken.{idle_between, idle_broken}
 use Rattle.abc_session.proofs.Stops.{either_stop}
-use Rattle.abc_session.proofs.Runs.{starts, one_start, opening_points, same_run, same_input, opening_now}
+use Rattle.abc_session.proofs.Runs.{starts, not_wrong, one_start, opening_points, same_run, same_input, opening_now}
 use Rattle.abc_session.proofs.running.run_store.Given.{Over}
-use Rattle.abc_session.proofs.running.run_store.Goals.{After-open, After-serve_all}
+use Rattle.abc_session.proofs.running.run_store.Goals.{After-begin, After-serve_all}
 use Rattle.abc_session.proofs.running.run_store.Goals as goal
 
 -- while the store is opened every stop leaves the work of the start, and nothing is said
-opening_stops : (g : Over) (c : After-open g) → g.H.Host.tells_image → BeginsQuiet g.H.Host.clock g.H.Host.stopped c.args.host.now (g.H.Host.now c.args.host.now).image → (work : Work) → IsStart (g.H.Host.now c.args.host.now).image work
-    → Leaves g.H.Host.clock g.H.Host.stopped c.args.host.now c.open.new.host (IsSessionPoint work (session_of c.args.b.now work (g.H.Host.now c.args.host.now).left) (g.H.Host.now c.args.host.now).said)
+opening_stops : (g : Over) (c : After-begin g) → g.H.Host.tells_image → BeginsQuiet g.H.Host.clock g.H.Host.stopped c.args.host.now (g.H.Host.now c.args.host.now).image → (work : Work) → IsStart (g.H.Host.now c.args.host.now).image work
+    → Leaves g.H.Host.clock g.H.Host.stopped c.args.host.now c.begin.new.host (IsSessionPoint work (session_of c.args.b.now work (g.H.Host.now c.args.host.now).left) (g.H.Host.now c.args.host.now).said)
 opening_stops g c told quiet work start =
-    opening_points g.H.Host.clock g.H.Host.stopped c.args.host.now c.open.new.host work (session_of c.args.b.now work (g.H.Host.now c.args.host.now).left) (g.H.Host.now c.args.host.now).said
-    (c.open.ensures.stops told quiet work.kept start.kept)
+    opening_points g.H.Host.clock g.H.Host.stopped c.args.host.now c.begin.new.host work (session_of c.args.b.now work (g.H.Host.now c.args.host.now).left) (g.H.Host.now c.args.host.now).said
+    (c.begin.ensures.stops told quiet work.kept start.kept)
 
-opening_leaves : (g : Over) (c : After-open g) → g.H.Host.tells_image → BeginsQuiet g.H.Host.clock g.H.Host.stopped c.args.host.now (g.H.Host.now c.args.host.now).image → (work : Work) → IsStart (g.H.Host.now c.args.host.now).image work
-    → (i s : List ℕ) → g.H.Host.stopped c.open.new.host (g.H.Host.clock c.open.new.host) i s → OpensTo i work
+opening_leaves : (g : Over) (c : After-begin g) → g.H.Host.tells_image → BeginsQuiet g.H.Host.clock g.H.Host.stopped c.args.host.now (g.H.Host.now c.args.host.now).image → (work : Work) → IsStart (g.H.Host.now c.args.host.now).image work
+    → (i s : List ℕ) → g.H.Host.stopped c.begin.new.host (g.H.Host.clock c.begin.new.host) i s → OpensTo i work
 opening_leaves g c told quiet work start =
-    opening_now g.H.Host.clock g.H.Host.stopped c.args.host.now c.open.new.host (g.H.Host.now c.args.host.now).image (g.H.Host.now c.args.host.now).said work g.met.H.Host.since quiet start (c.open.ensures.stops told quiet work.kept start.kept)
+    opening_now g.H.Host.clock g.H.Host.stopped c.args.host.now c.begin.new.host (g.H.Host.now c.args.host.now).image (g.H.Host.now c.args.host.now).said work g.met.H.Host.since quiet start (c.begin.ensures.stops told quiet work.kept start.kept)
 
 -- what is so of the session is so of the run
 of_run : (g : Over) (c : After-serve_all g) (P : Bounds → Work → List ℕ → List ℕ → Type 0) → g.H.Host.tells_image → (work : Work) → IsStart (g.H.Host.now c.args.host.now).image work
-    → P c.in-Ok.store.journal.bounds (work_of c.in-Ok.store) (g.H.Host.now c.open.new.host).left (g.H.Host.now c.open.new.host).said → P c.args.b.now work (g.H.Host.now c.args.host.now).left (g.H.Host.now c.args.host.now).said
+    → P c.in-Ok.store.bounds (work_of c.in-Ok.store) (g.H.Host.now c.begin.new.host).left (g.H.Host.now c.begin.new.host).said → P c.args.b.now work (g.H.Host.now c.args.host.now).left (g.H.Host.now c.args.host.now).said
 of_run g c P told work start =
     let old = g.H.Host.now c.args.host.now in
-    let mid = g.H.Host.now c.open.new.host in
+    let mid = g.H.Host.now c.begin.new.host in
     let store = work_of c.in-Ok.store in
-    let same : store ≡ work = one_start old.image store work (starts old.image mid.image store (c.in-Ok.ensures.opened told) (c.in-Ok.ensures.image told) (c.in-Ok.ensures.holds told)) start in
-    same_run P c.args.b.now c.in-Ok.store.journal.bounds work store old.left mid.left old.said mid.said c.in-Ok.ensures.bounds same c.open.ensures.rest.left c.open.ensures.rest.said
+    let same : store ≡ work = one_start c.images_open_to_one.ensures.one old.image store work (starts old.image mid.image store (c.in-Ok.ensures.opened told) (c.in-Ok.ensures.image told) (c.in-Ok.ensures.holds told)) start in
+    same_run P c.args.b.now c.in-Ok.store.bounds work store old.left mid.left old.said mid.said c.in-Ok.ensures.bounds same c.begin.ensures.rest.left c.begin.ensures.rest.said
 
 session_stops : (g : Over) (c : After-serve_all g) → g.H.Host.tells_image → g.H.Host.tells_said → g.H.Host.tells_input → BeginsQuiet g.H.Host.clock g.H.Host.stopped c.args.host.now (g.H.Host.now c.args.host.now).image
     → (work : Work) → IsStart (g.H.Host.now c.args.host.now).image work
     → Leaves g.H.Host.clock g.H.Host.stopped c.args.host.now c.serve_all.new.host (IsSessionPoint work (session_of c.args.b.now work (g.H.Host.now c.args.host.now).left) (g.H.Host.now c.args.host.now).said)
 session_stops g c told told_said told_input quiet work start =
-    run_after g.H.Host.clock g.H.Host.stopped c.args.host.now c.open.new.host c.serve_all.new.host _ _
-    (opening_points g.H.Host.clock g.H.Host.stopped c.args.host.now c.open.new.host work (session_of c.args.b.now work (g.H.Host.now c.args.host.now).left) (g.H.Host.now c.args.host.now).said
-    (c.open.ensures.stops told quiet work.kept start.kept))
-    (of_run g c (λ b w l t. Leaves g.H.Host.clock g.H.Host.stopped c.open.new.host c.serve_all.new.host (IsSessionPoint w (session_of b w l) t)) told work start
+    run_after g.H.Host.clock g.H.Host.stopped c.args.host.now c.begin.new.host c.serve_all.new.host _ _
+    (opening_points g.H.Host.clock g.H.Host.stopped c.args.host.now c.begin.new.host work (session_of c.args.b.now work (g.H.Host.now c.args.host.now).left) (g.H.Host.now c.args.host.now).said
+    (c.begin.ensures.stops told quiet work.kept start.kept))
+    (of_run g c (λ b w l t. Leaves g.H.Host.clock g.H.Host.stopped c.begin.new.host c.serve_all.new.host (IsSessionPoint w (session_of b w l) t)) told work start
     (c.serve_all.ensures.stops told told_said told_input (c.in-Ok.ensures.quiet told quiet))) (λ i s p. p)
 
 asked_in_run : (g : Over) (c : After-serve_all g) → g.H.Host.tells_image → g.H.Host.tells_said → g.H.Host.tells_input → (work : Work) → IsStart (g.H.Host.now c.args.host.now).image work
@@ -57,14 +59,14 @@ asked_in_run : (g : Over) (c : After-serve_all g) → g.H.Host.tells_image → g
 asked_in_run g c told told_said told_input work start =
     let old = g.H.Host.now c.args.host.now in
     let new = g.H.Host.now c.serve_all.new.host in
-    subst (λ (a : List (ℕ × ℕ)). Asked (AsksSettled c.args.b.now work old.left (length old.said)) a new.asked) c.open.ensures.rest.asked
-    (of_run g c (λ b w l t. Asked (AsksSettled b w l (length t)) (g.H.Host.now c.open.new.host).asked new.asked) told work start (c.serve_all.ensures.asked told_said told_input))
+    subst (λ (a : List (ℕ × ℕ)). Asked (AsksSettled c.args.b.now work old.left (length old.said)) a new.asked) c.begin.ensures.rest.asked
+    (of_run g c (λ b w l t. Asked (AsksSettled b w l (length t)) (g.H.Host.now c.begin.new.host).asked new.asked) told work start (c.serve_all.ensures.asked told_said told_input))
 
 pub returns-in-Err-StoreFault-clause-stops : goal.returns-in-Err-StoreFault-clause-stops
-returns-in-Err-StoreFault-clause-stops g c told told_said told_input quiet work start = opening_stops g (goal.at.returns-in-Err-StoreFault-clause-stops g c).After-open told quiet work start
+returns-in-Err-StoreFault-clause-stops g c told told_said told_input quiet work start = opening_stops g (goal.at.returns-in-Err-StoreFault-clause-stops g c).After-begin told quiet work start
 
 pub returns-in-Err-Memory-clause-stops : goal.returns-in-Err-Memory-clause-stops
-returns-in-Err-Memory-clause-stops g c told told_said told_input quiet work start = opening_stops g (goal.at.returns-in-Err-Memory-clause-stops g c).After-open told quiet work start
+returns-in-Err-Memory-clause-stops g c told told_said told_input quiet work start = opening_stops g (goal.at.returns-in-Err-Memory-clause-stops g c).After-begin told quiet work start
 
 pub returns-in-Ok-serve_all-clause-stops : goal.returns-in-Ok-serve_all-clause-stops
 returns-in-Ok-serve_all-clause-stops g c told told_said told_input quiet work start = session_stops g (goal.at.returns-in-Ok-serve_all-clause-stops g c).After-serve_all told told_said told_input quiet work start
@@ -78,13 +80,13 @@ returns-in-Ok-serve_all-clause-complete g c told told_said told_input _ =
     let new = g.H.Host.now c.serve_all.new.host in
     let at = (goal.at.returns-in-Ok-serve_all-clause-complete g c).After-serve_all in
     let store = work_of c.in-Ok.store in
-    let start = starts old.image (g.H.Host.now c.open.new.host).image store (c.in-Ok.ensures.opened told) (c.in-Ok.ensures.image told) (c.in-Ok.ensures.holds told) in
+    let start = starts old.image (g.H.Host.now c.begin.new.host).image store (c.in-Ok.ensures.opened told) (c.in-Ok.ensures.image told) (c.in-Ok.ensures.holds told) in
     record {
       start = store;
       is_start = start;
       said = of_run g at (λ b w l t. new.said ≡ t ++ output (session_of b w l)) told store start (c.in-Ok-serve_all.ensures.said told_said told_input);
       holds = of_run g at (λ b w l t. Holds new.image (last_work w (session_of b w l))) told store start (subst (λ w. Holds new.image w) (c.in-Ok-serve_all.ensures.work told_input) (c.in-Ok-serve_all.ensures.holds told));
-      ended = same_input (session_of c.args.b.now store old.left).ending c.args.b.now.input old (g.H.Host.now c.open.new.host) new c.open.ensures.rest.left (of_run g at (λ b w l t. HasEnded (session_of b w l).ending b.input (g.H.Host.now c.open.new.host) new) told store start (c.in-Ok-serve_all.ensures.ended told_input));
+      ended = same_input (session_of c.args.b.now store old.left).ending c.args.b.now.input old (g.H.Host.now c.begin.new.host) new c.begin.ensures.rest.left (of_run g at (λ b w l t. HasEnded (session_of b w l).ending b.input (g.H.Host.now c.begin.new.host) new) told store start (c.in-Ok-serve_all.ensures.ended told_input));
     }
 
 pub returns-in-Err-StoreFault-clause-stands : goal.returns-in-Err-StoreFault-clause-stands
@@ -93,8 +95,8 @@ returns-in-Err-StoreFault-clause-stands g c told told_said told_input quiet work
     record {
       waiting = search rules;
       between = search rules;
-      broken = λ _. idle_broken work (session_of c.args.b.now work old.left) old.said (g.H.Host.now c.open.new.host).said (g.H.Host.stopped c.open.new.host (g.H.Host.clock c.open.new.host)) c.open.ensures.rest.said
-          (opening_leaves g (goal.at.returns-in-Err-StoreFault-clause-stands g c).After-open told quiet work start);
+      broken = λ _. idle_broken work (session_of c.args.b.now work old.left) old.said (g.H.Host.now c.begin.new.host).said (g.H.Host.stopped c.begin.new.host (g.H.Host.clock c.begin.new.host)) c.begin.ensures.rest.said
+          (opening_leaves g (goal.at.returns-in-Err-StoreFault-clause-stands g c).After-begin told quiet work start);
       cut_short = search rules;
     }
 
@@ -103,8 +105,8 @@ returns-in-Err-Memory-clause-stands g c told told_said told_input quiet work sta
     let old = g.H.Host.now c.args.host.now in
     record {
       waiting = search rules;
-      between = λ _. idle_between work (session_of c.args.b.now work old.left) old.said (g.H.Host.now c.open.new.host).said (g.H.Host.stopped c.open.new.host (g.H.Host.clock c.open.new.host)) c.open.ensures.rest.said
-          (opening_leaves g (goal.at.returns-in-Err-Memory-clause-stands g c).After-open told quiet work start);
+      between = λ _. idle_between work (session_of c.args.b.now work old.left) old.said (g.H.Host.now c.begin.new.host).said (g.H.Host.stopped c.begin.new.host (g.H.Host.clock c.begin.new.host)) c.begin.ensures.rest.said
+          (opening_leaves g (goal.at.returns-in-Err-Memory-clause-stands g c).After-begin told quiet work start);
       broken = search rules;
       cut_short = search rules;
     }
@@ -135,3 +137,21 @@ returns-clause-stands g c told told_said told_input quiet work start =
       cut_short = λ ends. of_run g at (λ b w l t. IsCutShort OpensTo (works w (session_of b w l)) (replies (session_of b w l)) t new.said (g.H.Host.stopped c.serve_all.new.host (g.H.Host.clock c.serve_all.new.host))) told work start
           (c.serve_all.ensures.cut_short told told_said told_input (c.in-Ok.ensures.quiet told quiet) (c.in-Err.is ∙ ap (λ x. Err x) (c.status_of.ensures.sink_fault ends)));
     }
+
+pub returns-in-Ok-serve_all-clause-refused : goal.returns-in-Ok-serve_all-clause-refused
+returns-in-Ok-serve_all-clause-refused g c told at wrong = absurd (not_wrong c.images_open_to_one.ensures.one (g.H.Host.now c.args.host.now).image (work_of c.in-Ok.store).kept at (c.in-Ok.ensures.opened told) wrong)
+
+pub returns-in-Ok-serve_all-clause-untouched : goal.returns-in-Ok-serve_all-clause-untouched
+returns-in-Ok-serve_all-clause-untouched g c told at wrong = absurd (not_wrong c.images_open_to_one.ensures.one (g.H.Host.now c.args.host.now).image (work_of c.in-Ok.store).kept at (c.in-Ok.ensures.opened told) wrong)
+
+pub returns-in-Ok-serve_all-clause-untouched_stops : goal.returns-in-Ok-serve_all-clause-untouched_stops
+returns-in-Ok-serve_all-clause-untouched_stops g c told at wrong = absurd (not_wrong c.images_open_to_one.ensures.one (g.H.Host.now c.args.host.now).image (work_of c.in-Ok.store).kept at (c.in-Ok.ensures.opened told) wrong)
+
+pub returns-clause-refused : goal.returns-clause-refused
+returns-clause-refused g c told at wrong = absurd (not_wrong c.images_open_to_one.ensures.one (g.H.Host.now c.args.host.now).image (work_of c.in-Ok.store).kept at (c.in-Ok.ensures.opened told) wrong)
+
+pub returns-clause-untouched : goal.returns-clause-untouched
+returns-clause-untouched g c told at wrong = absurd (not_wrong c.images_open_to_one.ensures.one (g.H.Host.now c.args.host.now).image (work_of c.in-Ok.store).kept at (c.in-Ok.ensures.opened told) wrong)
+
+pub returns-clause-untouched_stops : goal.returns-clause-untouched_stops
+returns-clause-untouched_stops g c told at wrong = absurd (not_wrong c.images_open_to_one.ensures.one (g.H.Host.now c.args.host.now).image (work_of c.in-Ok.store).kept at (c.in-Ok.ensures.opened told) wrong)

@@ -1,14 +1,18 @@
 use Rattle.std.proofs.Common.{rules, ◌≡◌, ◌∙◌, List, ℕ, length, sym, ap, subst}
 use Rattle.abc_journal.specs.Journal.{BeginsQuiet}
 use Rattle.abc_turns.specs.Session.{last_work, waiting}
-use Rattle.abc_session.specs.Asking.{Asked}
-use Rattle.abc_session.specs.Session.{Work, session_of}
+use Rattle.abc_reader.specs.Asking.{Asked}
+use Rattle.std.specs.Prelude.{Err}
+use Rattle.abc_store.specs.Opening.{Opens}
+use Rattle.abc_store.specs.Commit.{Work, Holds}
+use Rattle.abc_session.specs.declared.status.TheConstants.{NOT_A_STORE}
+use Rattle.abc_session.specs.Session.{session_of}
 use Rattle.abc_session.specs.Run.{IsStart}
-use Rattle.abc_session.specs.Serving.{Holds, IsStill}
+use Rattle.abc_session.specs.Serving.{IsStill}
 use Rattle.abc_session.specs.Settled.{AsksSettled}
-use Rattle.abc_session.proofs.Asks.{none_asked}
+use Rattle.abc_reader.proofs.Asks.{none_asked}
 use Rattle.abc_session.proofs.Broken.{idle_broken}
-use Rattle.abc_session.proofs.Runs.{still_point, choice_points, run_points, quiet_after, last_opens, one_start, same_choice, choice_now, same_stands}
+use Rattle.abc_session.proofs.Runs.{not_wrong, still_point, choice_points, run_points, quiet_after, last_opens, one_start, same_choice, choice_now, same_complete, same_stands}
 use Rattle.abc_session.proofs.running.run_within.Given.{Over}
 use Rattle.abc_session.proofs.running.run_within.Goals.{After-choose}
 use Rattle.abc_session.proofs.running.run_within.Goals as goal
@@ -102,14 +106,18 @@ returns-in-Ok g c =
     let chosen = (goal.at.returns-in-Ok g c).After-choose in
     record {
       run = record {
-        complete = search rules;
+        complete = λ told told_said told_input is. same_complete c.args.b.now old mid new c.choose.ensures.rest.image c.choose.ensures.rest.left c.choose.ensures.rest.said (c.run_store.ensures.complete told told_said told_input is);
         status_is = search rules;
         usage = search rules;
         cause = search rules;
         refused = search rules;
         waits = λ told told_input work start is. of_choice g chosen (λ l t. (session_of c.args.b.now work l).ending ≡ waiting) (c.run_store.ensures.waits told told_input work (chosen_start g chosen work start) is);
         most_taken = search rules;
-        completeness = search rules;
+        completeness = λ told kept right none.
+            let no_wrong : c.run_store.result ≡ NOT_A_STORE → ⊥ = λ is.
+            let found = c.run_store.ensures.cause.not_a_store told is in
+            not_wrong c.images_open_to_one.ensures.one old.image kept found.0 right (subst (λ (i : List ℕ). Opens i (Err found.0)) c.choose.ensures.rest.image found.1) in
+            search rules;
         usage_nothing = search rules;
         untouched = search rules;
         untouched_stops = search rules;
@@ -128,7 +136,7 @@ returns-in-Ok g c =
             (c.run_store.ensures.stops told told_said told_input (chosen_quiet g chosen still) work (chosen_start g chosen work start));
         last = λ told told_said told_input still is work start i s stop.
             let all = c.run_store.ensures.complete told told_said told_input is in
-            let same : all.start ≡ work = one_start mid.image all.start work all.is_start (chosen_start g chosen work start) in
+            let same : all.start ≡ work = one_start c.images_open_to_one.ensures.one mid.image all.start work all.is_start (chosen_start g chosen work start) in
             let last : last_work all.start (session_of c.args.b.now all.start mid.left) ≡ last_work work (session_of c.args.b.now work old.left) =
             ap (λ w. last_work w (session_of c.args.b.now w mid.left)) same ∙ ap (λ (l : List ℕ). last_work work (session_of c.args.b.now work l)) c.choose.ensures.rest.left in
             last_opens new.image i _ (subst (λ w. Holds new.image w) last all.holds) (c.run_store.ensures.quiet told (chosen_quiet g chosen still) is i s stop);

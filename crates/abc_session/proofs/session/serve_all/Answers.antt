@@ -1,16 +1,19 @@
-use Rattle.std.proofs.Common.{rules, ◌≡◌, ◌∙◌, suc, length, false, refl, subst}
+use Rattle.std.proofs.Common.{rules, ◌≡◌, ◌∙◌, suc, length, refl, ap, subst}
 use Rattle.std.proofs.lemmas.Bool.{false_from_ne_true}
 use Rattle.abc_journal.specs.declared.layout.Bounds.{Bounds}
 use Rattle.abc_outside.specs.Stop.{Leaves, IsQuiet}
 use Rattle.abc_turns.specs.Session.{Session, replies, works}
 use Rattle.abc_turns.specs.Stops.{HasServed, IsBroken, IsCutShort}
 use Rattle.abc_turns.proofs.Endings.{between_later, broken_later, cut_later}
-use Rattle.abc_session.specs.Asking.{Asked, AskedRising, next_ask}
-use Rattle.abc_session.specs.Session.{Work, session_of}
-use Rattle.abc_session.specs.Serving.{work_of, OpensTo, IsSessionPoint}
+use Rattle.abc_reader.specs.Asking.{Asked, AskedRising, next_ask}
+use Rattle.abc_store.specs.Commit.{Work}
+use Rattle.abc_store.specs.View.{work_of}
+use Rattle.abc_session.specs.Session.{session_of}
+use Rattle.abc_session.specs.Serving.{OpensTo, IsSessionPoint}
 use Rattle.abc_session.specs.Settled.{AsksSettled}
-use Rattle.abc_session.specs.inner.Place.{Place, start_place, place_at, session_at, WentOn}
-use Rattle.abc_session.proofs.Asks.{rising_then, rising_ends}
+use Rattle.abc_session.specs.inner.Place.{Place, start_place, place_at, session_at, WentOn, Ended}
+use Rattle.abc_reader.specs.Reading.{fresh}
+use Rattle.abc_reader.proofs.Asks.{rising_then, rising_ends}
 use Rattle.abc_session.proofs.Broken.{told_served, idle_between}
 use Rattle.abc_session.proofs.Places.{begins, went_then, went_on, waits, waits_on, turn_asks, said_all, kept_all, ended_all}
 use Rattle.abc_session.proofs.Turns.{then_stops}
@@ -23,13 +26,13 @@ abbrev here : (g : Over) → After-turn g → Place
 here g c = place_at c.items.served (work_of c.items.store) c.items.reader (g.H.Host.now c.items.host)
 
 abbrev limit : (g : Over) → After-turn g → Bounds
-limit g c = c.args.store.now.journal.bounds
+limit g c = c.args.store.now.bounds
 
 abbrev whole : (g : Over) → After-turn g → Session Work
 whole g c = session_of (limit g c) (work_of c.args.store.now) (g.H.Host.now c.args.host.now).left
 
 -- what the clauses of the turn say of the bounds of its store is so of the bounds at the start
-of_bounds : (g : Over) (c : After-turn g) (P : Bounds → Type 0) → P c.items.store.journal.bounds → P (limit g c)
+of_bounds : (g : Over) (c : After-turn g) (P : Bounds → Type 0) → P c.items.store.bounds → P (limit g c)
 of_bounds g c P p = subst (λ (b : Bounds). P b) c.items.invariant.bounds p
 
 -- the items so far were served, and those from here on are left
@@ -64,19 +67,21 @@ rises_to_end : (g : Over) (c : After-turn g) → g.H.Host.tells_said → AskedRi
 rises_to_end g c told =
     rising_ends 0 c.turn.new.reader.taken (g.H.Host.now c.turn.new.host).taken c.turn.new.reader.ended (g.H.Host.now c.args.host.now).asked (g.H.Host.now c.turn.new.host).asked c.turn.ensures.counts (rises_on g c told)
 
--- the input that has ended once stays so
-still_open : (g : Over) (c : After-turn g) → c.turn.new.reader.ended ≡ false → c.items.reader.ended ≡ false
-still_open g c going = false_from_ne_true c.items.reader.ended (λ is. absurd (cc (c.turn.ensures.stays_ended is, going)))
-
 -- all that was done up to the end of this turn
 went_all : (g : Over) (c : After-turn g) → g.H.Host.tells_input
-    → WentOn c.items.store.journal.bounds g.H.Host.tells_said (here g c) (place_at c.turn.new.served (work_of c.turn.new.store) c.turn.new.reader (g.H.Host.now c.turn.new.host))
+    → WentOn c.items.store.bounds g.H.Host.tells_said (here g c) (place_at c.turn.new.served (work_of c.turn.new.store) c.turn.new.reader (g.H.Host.now c.turn.new.host))
     → WentOn (limit g c) g.H.Host.tells_said (start_place (work_of c.args.store.now) (limit g c).input (g.H.Host.now c.args.host.now)) (place_at c.turn.new.served (work_of c.turn.new.store) c.turn.new.reader (g.H.Host.now c.turn.new.host))
 went_all g c told goes =
     went_then (limit g c) g.H.Host.tells_said (start_place (work_of c.args.store.now) (limit g c).input (g.H.Host.now c.args.host.now)) (here g c)
     (place_at c.turn.new.served (work_of c.turn.new.store) c.turn.new.reader (g.H.Host.now c.turn.new.host)) (c.items.invariant.went told)
     (of_bounds g c (λ b. WentOn b g.H.Host.tells_said (here g c) (place_at c.turn.new.served (work_of c.turn.new.store) c.turn.new.reader (g.H.Host.now c.turn.new.host))) goes)
-    (still_open g c)
+    c.turn.ensures.stays_ended
+
+-- the session ended with this turn
+ends_so : (g : Over) (c : After-turn g)
+    → Ended c.items.store.bounds g.H.Host.tells_said (here g c) (place_at c.turn.new.served (work_of c.turn.new.store) c.turn.new.reader (g.H.Host.now c.turn.new.host))
+    → Ended (limit g c) g.H.Host.tells_said (here g c) (place_at c.turn.new.served (work_of c.turn.new.store) c.turn.new.reader (g.H.Host.now c.turn.new.host))
+ends_so g c ended = of_bounds g c (λ b. Ended b g.H.Host.tells_said (here g c) (place_at c.turn.new.served (work_of c.turn.new.store) c.turn.new.reader (g.H.Host.now c.turn.new.host))) ended
 
 pub items-init : goal.items-init
 items-init g c = record {
@@ -88,7 +93,7 @@ items-init g c = record {
   total = search rules;
   ended = search rules;
   counted = search rules;
-  went = λ told. begins _ _ (work_of c.args.store.now) c.args.store.now.journal.bounds.input (g.H.Host.now c.args.host.now) c.new-reader.result c.new-reader.ensures.pending c.new-reader.ensures.taken (c.new-reader.ensures.bound ∙ c.requires.same_bound) c.new-reader.ensures.ended;
+  went = λ told. begins _ _ (work_of c.args.store.now) c.args.store.now.bounds.input (g.H.Host.now c.args.host.now) c.new-reader.result (c.new-reader.ensures ∙ ap fresh c.requires.same_bound);
   asked = search rules;
   asks_rise = search rules;
   stops = search rules;
@@ -110,7 +115,7 @@ items-preserved g c =
       total = λ told. c.turn.ensures.total told ∙ i.total told;
       ended = λ told. c.in_ok-turn.ensures.ended told;
       counted = search rules;
-      went = λ told. went_all g (goal.at.items-preserved g c).After-turn told (c.in_ok-turn.ensures.goes_on told);
+      went = λ told. went_all g (goal.at.items-preserved g c).After-turn told (c.turn.ensures.goes_on told (search rules));
       asked = λ told_said told. asks_on g (goal.at.items-preserved g c).After-turn told_said told;
       asks_rise = λ told. rises_on g (goal.at.items-preserved g c).After-turn told;
       stops = λ told told_said told_input quiet. stops_on g (goal.at.items-preserved g c).After-turn told told_said told_input quiet;
@@ -128,19 +133,19 @@ returns-clause-stops g c told told_said told_input quiet = stops_on g (goal.at.r
 
 pub returns-clause-said : goal.returns-clause-said
 returns-clause-said g c told_said told =
-    said_all (limit g (goal.at.returns-clause-said g c).After-turn) (work_of c.args.store.now) (g.H.Host.now c.args.host.now) g.H.Host.tells_said _ (went_all g (goal.at.returns-clause-said g c).After-turn told (c.in_ok-turn.ensures.goes_on told))
-    (c.turn.ensures.over told (search rules)) told_said
+    let at = (goal.at.returns-clause-said g c).After-turn in
+    said_all (limit g at) (work_of c.args.store.now) (g.H.Host.now c.args.host.now) g.H.Host.tells_said (here g at) _ (c.items.invariant.went told) (ends_so g at (c.turn.ensures.ends told (search rules))) told_said
 
 pub returns-clause-work : goal.returns-clause-work
 returns-clause-work g c told =
-    kept_all (limit g (goal.at.returns-clause-work g c).After-turn) (work_of c.args.store.now) (g.H.Host.now c.args.host.now) g.H.Host.tells_said _ (went_all g (goal.at.returns-clause-work g c).After-turn told (c.in_ok-turn.ensures.goes_on told))
-    (c.turn.ensures.over told (search rules))
+    let at = (goal.at.returns-clause-work g c).After-turn in
+    kept_all (limit g at) (work_of c.args.store.now) (g.H.Host.now c.args.host.now) g.H.Host.tells_said (here g at) _ (c.items.invariant.went told) (ends_so g at (c.turn.ensures.ends told (search rules)))
 
 pub returns-clause-ended : goal.returns-clause-ended
 returns-clause-ended g c told =
-    ended_all (limit g (goal.at.returns-clause-ended g c).After-turn) (work_of c.args.store.now) (g.H.Host.now c.args.host.now) g.H.Host.tells_said
-    (place_at c.turn.new.served (work_of c.turn.new.store) c.turn.new.reader (g.H.Host.now c.turn.new.host)) (went_all g (goal.at.returns-clause-ended g c).After-turn told (c.in_ok-turn.ensures.goes_on told)) (g.H.Host.now c.turn.new.host)
-    (c.turn.ensures.over told (search rules)) (c.turn.ensures.end told (search rules)) refl (c.turn.ensures.end_bound (search rules)) (search rules) (c.turn.ensures.total told ∙ c.items.invariant.total told)
+    let at = (goal.at.returns-clause-ended g c).After-turn in
+    ended_all (limit g at) (work_of c.args.store.now) (g.H.Host.now c.args.host.now) g.H.Host.tells_said (here g at) _ (c.items.invariant.went told) (ends_so g at (c.turn.ensures.ends told (search rules)))
+    (g.H.Host.now c.turn.new.host) refl (search rules) (c.turn.ensures.total told ∙ c.items.invariant.total told)
 
 pub returns-in_err-turn-clause-asked : goal.returns-in_err-turn-clause-asked
 returns-in_err-turn-clause-asked g c told_said told = asks_on g (goal.at.returns-in_err-turn-clause-asked g c).After-turn told_said told

@@ -1,29 +1,30 @@
 use Rattle.std.proofs.Common.{◌≡◌, ◌≤◌, ◌+◌, ◌-◌, [], length, true, IsTrue}
 use Rattle.abc_outside.specs.Outside.{IsFaultless}
 use Rattle.abc_outside.specs.Stop.{Leaves, IsQuiet}
-use Rattle.abc_session.specs.Asking.{Asked, AskedRising, next_ask}
+use Rattle.abc_reader.specs.Asking.{Asked, AskedRising, next_ask}
 use Rattle.abc_session.specs.Session.{session_of}
-use Rattle.abc_session.specs.Serving.{work_of, Holds, IsSessionPoint, NoneFell}
+use Rattle.abc_store.specs.Commit.{Holds}
+use Rattle.abc_store.specs.View.{work_of}
+use Rattle.abc_session.specs.Serving.{IsSessionPoint, NoneFell}
 use Rattle.abc_session.specs.Settled.{AsksSettled}
 use Rattle.abc_session.specs.inner.Place.{start_place, place_at, WentOn}
-use Rattle.abc_session.specs.inner.Reading.{used_of}
 use Rattle.abc_session.proofs.session.serve_all.Given as goal
 
 abbrev pub invariant-items : goal.invariant-items
 invariant-items g l =
     let first = g.H.Host.now l.initial.host in
     let now = g.H.Host.now l.host in
-    let limit = l.initial.store.journal.bounds in
+    let limit = l.initial.store.bounds in
     let work = work_of l.initial.store in
     record {
-      sound : IsTrue l.store.journal.sound;
-      bounds : l.store.journal.bounds ≡ l.initial.store.journal.bounds;
+      sound : IsTrue l.store.sound;
+      bounds : l.store.bounds ≡ l.initial.store.bounds;
       input_bound : l.reader.bound ≡ l.bound;
       holds : g.H.Host.tells_image → Holds now.image (work_of l.store);
       counts : now.taken ≡ l.reader.taken;
       total : g.H.Host.tells_input → l.reader.taken + length now.left ≡ length first.left;
       ended : g.H.Host.tells_input → l.reader.ended ≡ true → now.left ≡ [];
-      counted : l.served ≤ used_of l.reader;
+      counted : l.served ≤ l.reader.used;
       went : g.H.Host.tells_input → WentOn limit g.H.Host.tells_said (start_place work limit.input first) (place_at l.served (work_of l.store) l.reader now);
       asked : g.H.Host.tells_said → g.H.Host.tells_input → Asked (AsksSettled limit work first.left (length first.said)) first.asked now.asked;
       asks_rise : g.H.Host.tells_said → AskedRising 0 (next_ask l.reader.taken l.reader.ended) first.asked now.asked;
@@ -36,4 +37,4 @@ invariant-items g l =
     }
 
 abbrev pub decreases-items : goal.decreases-items
-decreases-items g l = l.reader.bound - used_of l.reader
+decreases-items g l = l.reader.bound - l.reader.used

@@ -1,8 +1,20 @@
-use Rattle.abc_store.proofs.Targets.{spellable_after}
+use Rattle.abc_store.specs.inner.Later.{later_of}
+use Rattle.abc_store.proofs.Wholes.{spellable_after}
 use Rattle.abc_store.proofs.plan.prepare.Goals as goal
 
-pub checkpoint_if-requires-2 : goal.checkpoint_if-requires-2
-checkpoint_if-requires-2 c = spellable_after c.args.changes.items (record { targets = c.args.targets.now }) (record { targets = c.in_ok-later.later }) c.requires.kept c.requires.spellable c.in_ok-later.ensures c.requires.later
+pub returns-then-not-may_be_due-clause-spellable : goal.returns-then-not-may_be_due-clause-spellable
+returns-then-not-may_be_due-clause-spellable c =
+    spellable_after c.args.changes.items c.args.contents.now (later_of c.made_at_once.new.contents c.in_ok-later.later) c.requires.kept c.requires.spellable c.in_ok-later.ensures.later c.requires.later
+
+pub returns-then-not-may_be_due-clause-standing : goal.returns-then-not-may_be_due-clause-standing
+returns-then-not-may_be_due-clause-standing c =
+    c.in_ok-later.ensures.standing
+    (spellable_after c.args.changes.items c.args.contents.now (later_of c.made_at_once.new.contents c.in_ok-later.later) c.requires.kept c.requires.spellable c.in_ok-later.ensures.later c.requires.later)
+
+pub checkpoint-requires : goal.checkpoint-requires
+checkpoint-requires c =
+    record { spellable = spellable_after c.args.changes.items c.args.contents.now (later_of c.args.contents.now c.in_ok-later-2.later) c.requires.kept c.requires.spellable c.in_ok-later-2.ensures c.requires.later }
 
 pub returns-clause-spellable : goal.returns-clause-spellable
-returns-clause-spellable c = spellable_after c.args.changes.items (record { targets = c.args.targets.now }) (record { targets = c.in_ok-later.later }) c.requires.kept c.requires.spellable c.in_ok-later.ensures c.requires.later
+returns-clause-spellable c =
+    spellable_after c.args.changes.items c.args.contents.now (later_of c.args.contents.now c.in_ok-later-2.later) c.requires.kept c.requires.spellable c.in_ok-later-2.ensures c.requires.later

@@ -7,9 +7,9 @@ use Rattle.abc_store.specs.Workspace.{Workspace, checkpoint_of}
 use Rattle.abc_store.specs.Opening.{OpensTo}
 use Rattle.abc_store.specs.Commit.{OpensToEither, StillOpens}
 use Rattle.abc_store.specs.inner.Steps.{fits, IsPlan, TakesDue}
-use Rattle.abc_store.proofs.Stepping.{ok_alone, room_fails, record_fails, all_done, takes_due, no_record, not_recorded}
+use Rattle.abc_store.proofs.Stepping.{ok_alone, room_fails, record_fails, full_is_unfit, all_done, takes_due, no_record, not_recorded}
 use Rattle.abc_store.proofs.steps.write_all.Given.{Over}
-use Rattle.abc_store.proofs.steps.write_all.Goals.{In_ok-make_room, After-add_record, In_ok-add_record}
+use Rattle.abc_store.proofs.steps.write_all.Goals.{After-add_record, In_ok-add_record}
 use Rattle.abc_store.proofs.steps.write_all.Goals as goal
 
 pub returns-in_err-make_room-clause-layouts : goal.returns-in_err-make_room-clause-layouts
@@ -18,6 +18,14 @@ returns-in_err-make_room-clause-layouts g c kept later plan =
     let failed : OnOk c.from_residual.result ⊥ = search rules in
     let answer : AnswersTo c.from_residual.result c.make_room.new.journal.layout (with_room journal.bounds journal.layout (length c.args.payload.now) (length (checkpoint_of kept))) = search rules in
     room_fails journal.bounds journal.layout (length c.args.payload.now) (length (checkpoint_of kept)) (length (checkpoint_of later)) c.from_residual.result c.make_room.new.journal.layout failed answer
+
+pub returns-in_err-make_room-clause-unfit : goal.returns-in_err-make_room-clause-unfit
+returns-in_err-make_room-clause-unfit g c kept later plan =
+    let journal = c.args.journal.now in
+    let failed : OnOk c.from_residual.result ⊥ = search rules in
+    let answer : AnswersTo c.from_residual.result c.make_room.new.journal.layout (with_room journal.bounds journal.layout (length c.args.payload.now) (length (checkpoint_of kept))) = search rules in
+    full_is_unfit journal.bounds journal.layout (length c.args.payload.now) (length (checkpoint_of kept)) (length (checkpoint_of later)) c.from_residual.result c.make_room.new.journal.layout
+    (room_fails journal.bounds journal.layout (length c.args.payload.now) (length (checkpoint_of kept)) (length (checkpoint_of later)) c.from_residual.result c.make_room.new.journal.layout failed answer)
 
 pub returns-in_err-add_record-clause-layouts : goal.returns-in_err-add_record-clause-layouts
 returns-in_err-add_record-clause-layouts g c kept later plan =
@@ -28,6 +36,17 @@ returns-in_err-add_record-clause-layouts g c kept later plan =
     let answer : AnswersTo c.from_residual-in_err-add_record.result c.add_record.new.journal.layout (recorded c.make_room.new.journal.bounds c.make_room.new.journal.layout bytes) = search rules in
     record_fails journal.bounds journal.layout bytes (length (checkpoint_of kept)) (length (checkpoint_of later)) c.from_residual-in_err-add_record.result c.make_room.new.journal.layout c.add_record.new.journal.layout failed room
     (subst (λ b. AnswersTo c.from_residual-in_err-add_record.result c.add_record.new.journal.layout (recorded b c.make_room.new.journal.layout bytes)) c.make_room.ensures.bounds answer)
+
+pub returns-in_err-add_record-clause-unfit : goal.returns-in_err-add_record-clause-unfit
+returns-in_err-add_record-clause-unfit g c kept later plan =
+    let journal = c.args.journal.now in
+    let bytes = length c.args.payload.now in
+    let failed : OnOk c.from_residual-in_err-add_record.result ⊥ = search rules in
+    let room : with_room journal.bounds journal.layout bytes (length (checkpoint_of kept)) ≡ Ok c.make_room.new.journal.layout = c.in_ok-make_room.ensures.layouts bytes kept plan.room in
+    let answer : AnswersTo c.from_residual-in_err-add_record.result c.add_record.new.journal.layout (recorded c.make_room.new.journal.bounds c.make_room.new.journal.layout bytes) = search rules in
+    full_is_unfit journal.bounds journal.layout bytes (length (checkpoint_of kept)) (length (checkpoint_of later)) c.from_residual-in_err-add_record.result c.add_record.new.journal.layout
+    (record_fails journal.bounds journal.layout bytes (length (checkpoint_of kept)) (length (checkpoint_of later)) c.from_residual-in_err-add_record.result c.make_room.new.journal.layout c.add_record.new.journal.layout failed room
+    (subst (λ b. AnswersTo c.from_residual-in_err-add_record.result c.add_record.new.journal.layout (recorded b c.make_room.new.journal.layout bytes)) c.make_room.ensures.bounds answer))
 
 -- the stops up to the end of the record
 up_to_record : (g : Over) (c : After-add_record g) → g.H.Host.tells_image → IsQuiet g.H.Host.clock g.H.Host.stopped c.args.host.now (g.H.Host.now c.args.host.now).image → (kept later : Workspace)

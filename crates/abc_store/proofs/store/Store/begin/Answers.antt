@@ -1,11 +1,11 @@
-use Rattle.std.proofs.Common.{rules, ◌≡◌, ℕ, ◌<◌, ◌^◌, List, sym, ap, subst, arith}
+use Rattle.std.proofs.Common.{rules, ◌≡◌, ℕ, ◌<◌, ◌^◌, List, sym, ap, subst}
 use Rattle.std.specs.Prelude.{Err}
 use Rattle.abc_outside.specs.Stop.{Leaves}
 use Rattle.abc_journal.specs.Journal.{BeginsQuiet}
 use Rattle.abc_store.specs.Workspace.{Workspace, empty}
 use Rattle.abc_store.specs.Opening.{Opens, OpensTo}
 use Rattle.abc_store.specs.Commit.{StillOpens}
-use Rattle.abc_store.proofs.Images.{opens_by, opens_wrong, settled_opens, long_image, opening_stops, made_named, made_moved, wrong_place, refused_by}
+use Rattle.abc_store.proofs.Images.{opens_by, opens_wrong, settled_opens, long_image, opening_stops, made_named, made_moved, wrong_place, refused_by, empty_spellable}
 use Rattle.abc_store.specs.contracts.store.Store as store
 use Rattle.abc_store.proofs.store.Store.begin.Given.{Over}
 use Rattle.abc_store.proofs.store.Store.begin.Goals.{After-begin, In-Ok-replay}
@@ -50,10 +50,10 @@ returns-in-Err-clause-refused g c told =
 
 pub invariant_of-result : goal.invariant_of-result
 invariant_of-result g c =
-    (made_named c.layout.result.start empty (record { targets = c.in-Ok-replay.targets }) c.deref.result.now (tt, omega arith) c.in-Ok-replay.ensures.made, ap (λ b. b.checkpoint) c.in-Ok.ensures.bounds)
+    (made_named c.layout.result.start empty c.in-Ok-replay.contents c.deref.result.now empty_spellable c.in-Ok-replay.ensures.made, ap (λ b. b.checkpoint) c.in-Ok.ensures.bounds)
 
 -- what the records make is what the image opens to
-made : (g : Over) (c : In-Ok-replay g) → g.H.Host.tells_image → OpensTo (g.H.Host.now c.args.host.now).image (record { targets = c.in-Ok-replay.targets })
+made : (g : Over) (c : In-Ok-replay g) → g.H.Host.tells_image → OpensTo (g.H.Host.now c.args.host.now).image c.in-Ok-replay.contents
 made g c told =
     let start : c.layout.result.start ≡ c.in-Ok.found.0.layout.start = search rules in
     opens_by (g.H.Host.now c.args.host.now).image _ _ (c.in-Ok.ensures.opened told)
@@ -65,7 +65,7 @@ returns-in-Ok-replay-clause-opened g c told = made g (goal.at.returns-in-Ok-repl
 pub returns-in-Ok-replay-clause-holds : goal.returns-in-Ok-replay-clause-holds
 returns-in-Ok-replay-clause-holds g c told = record {
   layout = c.in-Ok.ensures.layout told;
-  opens_to = subst (λ (i : List ℕ). OpensTo i (record { targets = c.in-Ok-replay.targets })) (sym (c.in-Ok.ensures.image told))
+  opens_to = subst (λ (i : List ℕ). OpensTo i c.in-Ok-replay.contents) (sym (c.in-Ok.ensures.image told))
       (settled_opens (g.H.Host.now c.args.host.now).image _ (made g (goal.at.returns-in-Ok-replay-clause-holds g c).In-Ok-replay told));
 }
 

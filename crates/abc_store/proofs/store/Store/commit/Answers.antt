@@ -3,15 +3,17 @@ use Rattle.abc_num.specs.declared.limits.TheConstants.{MOST_RECORD_BYTES}
 use Rattle.abc_outside.specs.Stop.{Leaves}
 use Rattle.abc_record.specs.Spelling.{spelled}
 use Rattle.abc_store.specs.Workspace.{Workspace}
+use Rattle.abc_store.specs.Opening.{OpensTo}
 use Rattle.abc_store.specs.Commit.{StillOpens}
 use Rattle.abc_store.specs.View.{work_of}
+use Rattle.abc_store.specs.inner.Later.{later_of}
 use Rattle.abc_store.proofs.Stepping.{refused_by_layout}
 use Rattle.abc_store.proofs.store.Store.commit.Goals as goal
 
 pub returns-clause-unfit_stops : goal.returns-clause-unfit_stops
 returns-clause-unfit_stops g c told quiet later refusal made refused =
-    let kept : Workspace = record { targets = c.self.inside.targets } in
-    let last : Workspace = record { targets = c.in_ok-payload.targets } in
+    let kept : Workspace = c.self.inside.contents in
+    let last : Workspace = later_of c.prepare.new.contents c.in_ok-payload.later in
     let both : Some later ≡ Some last = search rules in
     let same : later ≡ last = cc in
     let some : c.args.changes.items ≡ [] → ⊥ = search rules in
@@ -22,3 +24,16 @@ returns-clause-unfit_stops g c told quiet later refusal made refused =
     let payload : length c.deref-2.result.now ≡ length (spelled c.args.changes.items) = search rules in
     subst (λ (w : Workspace). Leaves g.H.Host.clock g.H.Host.stopped c.args.host.now c.write_all.new.host (StillOpens w (g.H.Host.now c.args.host.now).said)) (ap (λ v. v.kept) c.self.view_is)
     (c.write_all.ensures.unfit_stops told quiet kept last refusal (search rules) (search rules) (rw (bounds, layout, payload, ap (λ v. v.kept) c.self.view_is, sym same) it))
+
+pub invariant_of-self-in-Err : goal.invariant_of-self-in-Err
+invariant_of-self-in-Err g c = (c.in_ok-payload.ensures.standing, search rules)
+
+pub returns-clause-holds : goal.returns-clause-holds
+returns-clause-holds g c told none_wrong =
+    let kept : Workspace = c.self.inside.contents in
+    let same : c.prepare.new.contents ≡ kept = search rules in
+    let opens : OpensTo (g.H.Host.now c.write_all.new.host).image kept = search rules in
+    record {
+      layout = search rules;
+      opens_to = subst (λ (w : Workspace). OpensTo (g.H.Host.now c.write_all.new.host).image w) (sym same) opens;
+    }

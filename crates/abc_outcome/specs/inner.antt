@@ -1,0 +1,4 @@
+-- Steps of the code, in words that no public clause uses.
+pub mod Lines
+pub mod Reads
+pub mod Steps

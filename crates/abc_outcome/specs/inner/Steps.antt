@@ -1,0 +1,54 @@
+-- The steps by which an item is answered.
+use Rattle.std.specs.Prelude.{◌≡◌, ℕ, Bool, false, List, [], ◌++◌, Option, None, Some, Result, Ok, Err}
+use Rattle.abc_tree.specs.declared.commands.Item.{Item}
+use Rattle.abc_tree.specs.declared.commands.Item.TheVariants as item
+use Rattle.abc_parse.specs.declared.fault.ItemFault.{ItemFault}
+use Rattle.abc_parse.specs.declared.fault.ItemFault.TheVariants.{At, Memory}
+use Rattle.abc_journal.specs.declared.layout.Bounds.{Bounds}
+use Rattle.abc_store.specs.declared.faults.CommitFault.{CommitFault}
+use Rattle.abc_store.specs.declared.faults.CommitFault.TheVariants as commit
+use Rattle.abc_store.specs.Commit.{Work}
+use Rattle.abc_store.specs.Workspace.{unit_of_lines}
+use Rattle.abc_outcome.specs.declared.answering.Answer.{Answer}
+use Rattle.abc_outcome.specs.declared.answering.AnswerFault.{AnswerFault}
+use Rattle.abc_outcome.specs.declared.answering.AnswerFault.TheVariants as stops
+use Rattle.abc_outcome.specs.Names.{fault_name}
+use Rattle.abc_outcome.specs.Reply.{fault_line}
+use Rattle.abc_outcome.specs.Outcome.{Outcome, ends_with, on_item}
+
+-- what comes of an item that was read, or in which a fault stands; want of memory says nothing of it
+abbrev pub ComesOf : Bounds → ℕ → ℕ → Work → Result Item ItemFault → Outcome → Type 0
+ComesOf bounds budget k work (Ok item) out = out ≡ on_item bounds budget k work (Some item)
+ComesOf bounds budget k work (Err (At fault)) out = out ≡ ends_with work [] (fault_line k fault.line (fault_name fault.kind))
+ComesOf bounds budget k work (Err Memory) out = Unit {0}
+
+-- an item that is a unit is spelled by its own lines
+abbrev pub IsSpelledUnit : Item → Type 0
+IsSpelledUnit (item.Command c) = Unit {0}
+IsSpelledUnit (item.Unit u) = unit_of_lines u.lines ≡ Some u
+IsSpelledUnit (item.Environment e) = Unit {0}
+
+-- the answer that is this reply
+abbrev pub refusing : List ℕ → Answer
+refusing reply = record { reply = reply; quit = false }
+
+-- either answer of a refusal: this reply, or want of memory
+abbrev pub Refuses : List ℕ → Result Answer AnswerFault → Type 0
+Refuses reply (Ok answer) = answer ≡ refusing reply
+Refuses reply (Err fault) = fault ≡ stops.Memory
+
+-- what keeps a command from running is told by its reply; where nothing does, none is
+abbrev pub IsHindered : Option (List ℕ) → Result (Option Answer) AnswerFault → Type 0
+IsHindered None (Ok None) = Unit {0}
+IsHindered None (Ok (Some answer)) = ⊥
+IsHindered (Some line) (Ok None) = ⊥
+IsHindered (Some line) (Ok (Some answer)) = answer ≡ refusing line
+IsHindered hindrance (Err fault) = fault ≡ stops.Memory
+
+-- What is answered after a commit: what was written, and the reply line for that.
+abbrev pub Closes : {T : Type 0} → List ℕ → List ℕ → List ℕ → List ℕ → Bool → Result T CommitFault → Result Answer AnswerFault → Type 0
+Closes written kept full large quits (Ok x) result = result ≡ Ok (record { reply = written ++ kept; quit = quits })
+Closes written kept full large quits (Err commit.StoreFault) result = result ≡ Err stops.StoreFault
+Closes written kept full large quits (Err commit.Memory) result = result ≡ Err stops.Memory
+Closes written kept full large quits (Err (commit.TooLarge bytes)) result = result ≡ Ok (record { reply = written ++ large; quit = false })
+Closes written kept full large quits (Err (commit.StoreFull need limit)) result = result ≡ Ok (record { reply = written ++ full; quit = false })

@@ -1,0 +1,17 @@
+//! What comes of an item: its reply, what it leaves in the store, and whether the session ends with it.
+#![tactic(auto)]
+
+mod answering;
+mod commands;
+mod keeping;
+mod laws;
+mod missing;
+mod names;
+mod no_lines;
+mod reading;
+mod replies;
+mod spelled;
+mod units;
+
+pub use answering::{Answer, AnswerFault, answer_item};
+pub use laws::{missing_is_least, no_reply_is_empty, refusals_change_nothing};

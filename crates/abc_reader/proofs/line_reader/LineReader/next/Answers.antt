@@ -1,0 +1,107 @@
+use Rattle.std.proofs.Common.{rules, ◌≡◌, ◌<◌, ◌+◌, ◌-◌, ◌++◌, ◌∷◌, ◌∙◌, true, false, [], length, take, nat_lt, sym, ap, refl}
+use Rattle.abc_outside.proofs.Leaves.{run_after}
+use Rattle.abc_num.specs.Lines.{raw_lines}
+use Rattle.abc_reader.specs.inner.LineReading.{shown, pending_of, TookPart, WantsLine, AsksLine}
+use Rattle.abc_reader.proofs.Started.{IsStarted, found, uses, if_found, went_on, read_on, wants, ends_empty, ends_line, last_found, none_left}
+use Rattle.abc_reader.specs.Asking.{Asked, next_ask}
+use Rattle.abc_reader.proofs.Asks.{asks_more, rising_read}
+use Rattle.abc_reader.proofs.line_reader.LineReader.next.Given.{Over}
+use Rattle.abc_reader.proofs.line_reader.LineReader.next.Goals.{In_ok-take_part, After-fill}
+use Rattle.abc_reader.proofs.line_reader.LineReader.next.Goals as goal
+
+-- all that is pending goes to the line, and the line goes on
+goes_on : (g : Over) (c : In_ok-take_part g) → c.in_ok-take_part.field-0 ≡ false → g.H.Host.tells_input
+    → IsStarted (pending_of c.args.self.now) (g.H.Host.now c.args.host.now).left c.args.self.now.taken (shown c.take_part.new.line) [] (g.H.Host.now c.pieces.host).left c.pieces.self.taken
+goes_on g c not told = went_on _ _ _ _ _ _ _ (c.pieces.invariant.started told) (pending_of c.take_part.new.self) (shown c.take_part.new.line) (rw not at c.in_ok-take_part.ensures.part)
+
+wants_now : (g : Over) (c : In_ok-take_part g) → c.in_ok-take_part.field-0 ≡ false → g.H.Host.tells_input → WantsLine (pending_of c.args.self.now) (g.H.Host.now c.args.host.now).left c.args.self.now.taken c.take_part.new.self.taken
+wants_now g c not told = let w = wants _ _ _ _ _ _ _ (goes_on g c not told) refl in (w.0, c.in_ok-take_part.ensures.taken ∙ w.1, w.2, w.3)
+
+-- the read that follows
+asks_on : (g : Over) (c : After-fill g) → WantsLine (pending_of c.args.self.now) (g.H.Host.now c.args.host.now).left c.args.self.now.taken c.take_part.new.self.taken → g.H.Host.tells_said → g.H.Host.tells_input
+    → Asked (AsksLine (pending_of c.args.self.now) (g.H.Host.now c.args.host.now).left c.args.self.now.taken (length (g.H.Host.now c.args.host.now).said)) (g.H.Host.now c.args.host.now).asked (g.H.Host.now c.fill.new.host).asked
+asks_on g c wants told_said told =
+    asks_more (pending_of c.args.self.now) (g.H.Host.now c.args.host.now).left c.args.self.now.taken (length (g.H.Host.now c.args.host.now).said) c.take_part.new.self.taken (length (g.H.Host.now c.pieces.host).said)
+    (g.H.Host.now c.args.host.now).asked (g.H.Host.now c.pieces.host).asked (g.H.Host.now c.fill.new.host).asked wants (ap length c.pieces.invariant.keeps.said) (c.pieces.invariant.asked told_said told) (c.fill.ensures.asked told_said)
+
+pub returns-then-branch-clause-line : goal.returns-then-branch-clause-line
+returns-then-branch-clause-line g c told =
+    let bound = c.args.self.now.bound in
+    let left = (g.H.Host.now c.pieces.host).left in
+    let new = c.take_part.new.self in
+    let line = shown c.take_part.new.line in
+    let part : TookPart (pending_of c.pieces.self) (pending_of new) (shown c.pieces.line) line true = rw c.if-branch.true at c.in_ok-take_part.ensures.part in
+    found (pending_of c.args.self.now) (g.H.Host.now c.args.host.now).left c.args.self.now.taken (shown c.pieces.line) (pending_of c.pieces.self) left c.pieces.self.taken (c.pieces.invariant.started told)
+    (pending_of new) line c.finish.result bound (search rules) part c.finish.ensures.line
+    ∙ ap (λ t. c.finish.result ∷ raw_lines (nat_lt (t + length left) bound) (pending_of new ++ take (bound - t) left)) (sym c.in_ok-take_part.ensures.taken)
+    ∙ ap (λ b. c.finish.result ∷ raw_lines (nat_lt (new.taken + length left) b) (pending_of new ++ take (b - new.taken) left)) (sym (c.in_ok-take_part.ensures.bound ∙ c.pieces.invariant.bound))
+
+pub returns-then-self-clause-line : goal.returns-then-self-clause-line
+returns-then-self-clause-line g c told =
+    let bound = c.args.self.now.bound in
+    let left = (g.H.Host.now c.pieces.host).left in
+    let new = c.take_part.new.self in
+    let line = shown c.take_part.new.line in
+    let part : TookPart (pending_of c.pieces.self) (pending_of new) (shown c.pieces.line) line false = rw c.if-branch.false at c.in_ok-take_part.ensures.part in
+    let none = part.rest (search rules) in
+    let s = goes_on g (goal.at.returns-then-self-clause-line g c).In_ok-take_part c.if-branch.false told in
+    let end : left ≡ [] = search rules in
+    let lt : c.pieces.self.taken < bound = search rules in
+    last_found c.if_any.result c.take_part.new.line _ _ new.ended c.if_any.ensures.last
+    (λ empty. ends_empty _ _ _ _ _ _ _ s bound lt (search rules) end empty) (λ last made some. ends_line _ _ _ _ _ _ _ s bound last lt (search rules) end made some)
+    (none_left (pending_of new) left _ _ none end) (search rules)
+
+pub returns-then-self-2-clause-wants : goal.returns-then-self-2-clause-wants
+returns-then-self-2-clause-wants g c told _ = wants_now g (goal.at.returns-then-self-2-clause-wants g c).In_ok-take_part c.if-branch.false told
+
+pub pieces-preserved : goal.pieces-preserved
+pieces-preserved g c =
+    let i = c.pieces.invariant in
+    let part = (goal.at.pieces-preserved g c).In_ok-take_part in
+    record {
+      counts = search rules;
+      bound = search rules;
+      rises = search rules;
+      ended = search rules;
+      used = search rules;
+      started = λ told. read_on _ _ _ _ _ _ _ (goes_on g part c.if-branch.false told) (pending_of c.fill.new.self) (g.H.Host.now c.fill.new.host).left c.fill.new.self.taken refl (c.in_ok-fill.ensures.bytes told) (search rules);
+      asked = λ told_said told. asks_on g (goal.at.pieces-preserved g c).After-fill (wants_now g part c.if-branch.false told) told_said told;
+      asks_rise = λ told. rising_read (next_ask c.args.self.now.taken c.args.self.now.ended) c.pieces.self.taken c.take_part.new.self.taken _ c.pieces.self.ended c.take_part.new.self.ended
+          (g.H.Host.now c.args.host.now).asked (g.H.Host.now c.pieces.host).asked (g.H.Host.now c.fill.new.host).asked c.in_ok-take_part.ensures.taken c.in_ok-take_part.ensures.ended (search rules)
+          (i.asks_rise told) (c.fill.ensures.asks_rise told);
+      ended_asks = λ is.
+          let went : c.pieces.self.ended ≡ true = (i.ended_asks is).0 in
+          let not : c.take_part.new.self.ended ≡ false = search rules in
+          let same : c.take_part.new.self.ended ≡ c.pieces.self.ended = c.in_ok-take_part.ensures.ended in
+          absurd (cc (went, not, same));
+      keeps = search rules;
+      faultless = search rules;
+      stops = run_after g.H.Host.clock g.H.Host.stopped c.args.host.now c.pieces.host c.fill.new.host _ _ i.stops c.fill.ensures.stops i.now;
+      now = λ image said stop. i.now image said (c.fill.ensures.now image said stop);
+    }
+
+pub returns-in_err-fill-clause-wants : goal.returns-in_err-fill-clause-wants
+returns-in_err-fill-clause-wants g c told _ = let w = wants_now g (goal.at.returns-in_err-fill-clause-wants g c).In_ok-take_part c.if-branch.false told in (w.0, c.in_err-fill.ensures.failed ∙ w.1, w.2, w.3)
+
+pub returns-in_err-fill-clause-asked : goal.returns-in_err-fill-clause-asked
+returns-in_err-fill-clause-asked g c told_said told = asks_on g (goal.at.returns-in_err-fill-clause-asked g c).After-fill (wants_now g (goal.at.returns-in_err-fill-clause-asked g c).In_ok-take_part c.if-branch.false told) told_said told
+
+pub returns-then-branch-clause-uses : goal.returns-then-branch-clause-uses
+returns-then-branch-clause-uses g c told not_ended =
+    let left = (g.H.Host.now c.pieces.host).left in
+    let new = c.take_part.new.self in
+    let line = shown c.take_part.new.line in
+    let part : TookPart (pending_of c.pieces.self) (pending_of new) (shown c.pieces.line) line true = rw c.if-branch.true at c.in_ok-take_part.ensures.part in
+    rw (c.in_ok-take_part.ensures.taken) (uses (pending_of c.args.self.now) (g.H.Host.now c.args.host.now).left c.args.self.now.taken (shown c.pieces.line) (pending_of c.pieces.self) left c.pieces.self.taken (c.pieces.invariant.started told)
+    (pending_of new) line c.finish.result part c.finish.ensures.line)
+
+pub returns-then-self-clause-uses : goal.returns-then-self-clause-uses
+returns-then-self-clause-uses g c told =
+    let is : c.take_part.new.self.ended ≡ true = search rules in
+    if_found c.if_any.result _ (λ line not. absurd (cc (is, not)))
+
+pub returns-in_err-fill-clause-asks_rise : goal.returns-in_err-fill-clause-asks_rise
+returns-in_err-fill-clause-asks_rise g c told =
+    rising_read (next_ask c.args.self.now.taken c.args.self.now.ended) c.pieces.self.taken c.take_part.new.self.taken _ c.pieces.self.ended c.take_part.new.self.ended
+    (g.H.Host.now c.args.host.now).asked (g.H.Host.now c.pieces.host).asked (g.H.Host.now c.fill.new.host).asked c.in_ok-take_part.ensures.taken c.in_ok-take_part.ensures.ended (search rules)
+    (c.pieces.invariant.asks_rise told) (c.fill.ensures.asks_rise told)

@@ -1,0 +1,6 @@
+-- Lemmas on schemes.
+mod Said
+mod Placing
+mod Exactness
+pub mod Later
+mod Copies

@@ -1,0 +1,13 @@
+use Rattle.std.proofs.Common.{◌∙◌, ◌-◌, List, length, take, drop, ap, sym, subst}
+use Rattle.abc_terms.specs.declared.term.VarId.{VarId}
+use Rattle.abc_terms.specs.Nodes.{AreIn}
+use Rattle.abc_terms.specs.Renamed.{number_in}
+use Rattle.abc_scheme.specs.inner.Places.{placed_vars}
+use Rattle.abc_scheme.proofs.Copies.{in_take, in_drop}
+use Rattle.abc_scheme.proofs.copying.rest_placed.Goals as goal
+
+pub renamed_vars-requires : goal.renamed_vars-requires
+renamed_vars-requires c =
+    let own = c.as_slice-own.result.now in
+    in_take (length c.args.table.now) (length own - c.args.count) (drop c.args.count own) (in_drop (length c.args.table.now) c.args.count own (subst (λ (xs : List VarId). AreIn (length c.args.table.now) xs) (sym c.as_slice-own.ensures)
+    (subst (λ n. AreIn n c.args.scheme.now.own) (sym c.requires.table) c.requires.inside.own)))

@@ -1,0 +1,3 @@
+-- Which types some variables may have together.
+pub mod Schemes
+pub mod inner
