@@ -1,0 +1,23 @@
+-- Lemmas of the parser.
+mod Cuts
+mod Joining
+mod Formed
+mod Whole
+mod Alone
+mod Stepping
+mod Built
+mod Computed
+mod Taking
+mod Said
+mod Backward
+mod PartsMade
+mod EachPart
+mod EachLine
+mod EachItem
+mod PlainFormals
+mod Different
+mod SimpleNodes
+mod Limits
+mod Opened
+mod Rising
+mod Settled

@@ -1,0 +1,5 @@
+use Rattle.abc_parse.proofs.Computed.{computed_item}
+use Rattle.abc_parse.proofs.laws.computed_item.Goals as goal
+
+pub returns : goal.returns
+returns c = computed_item

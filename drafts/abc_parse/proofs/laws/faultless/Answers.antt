@@ -1,0 +1,5 @@
+use Rattle.abc_parse.proofs.Whole.{faultless}
+use Rattle.abc_parse.proofs.laws.faultless.Goals as goal
+
+pub returns : goal.returns
+returns c = faultless

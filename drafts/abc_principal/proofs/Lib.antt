@@ -1,0 +1,4 @@
+-- Lemmas on principal signatures.
+mod Finding
+mod Named
+mod Placed

@@ -1,0 +1,3 @@
+-- Principal signatures of units.
+pub mod Principals
+pub mod inner
