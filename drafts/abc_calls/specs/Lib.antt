@@ -1,2 +1,0 @@
--- Calls in the order of the text.
-pub mod inner

@@ -1,2 +1,0 @@
--- What the code keeps on the way.
-pub mod Nodes

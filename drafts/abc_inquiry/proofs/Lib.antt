@@ -1,3 +1,0 @@
-mod Showing
-mod Dropping
-mod Spelled

@@ -1,4 +1,0 @@
--- What lines that ask about the workspace answer.
-pub mod inner
-pub mod Inquiry
-pub mod Laws

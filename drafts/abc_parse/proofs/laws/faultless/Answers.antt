@@ -1,5 +1,0 @@
-use Rattle.abc_parse.proofs.Whole.{faultless}
-use Rattle.abc_parse.proofs.laws.faultless.Goals as goal
-
-pub returns : goal.returns
-returns c = faultless

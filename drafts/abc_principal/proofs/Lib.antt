@@ -1,4 +1,0 @@
--- Lemmas on principal signatures.
-mod Finding
-mod Named
-mod Placed

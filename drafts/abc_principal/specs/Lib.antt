@@ -1,3 +1,0 @@
--- Principal signatures of units.
-pub mod Principals
-pub mod inner
