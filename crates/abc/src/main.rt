@@ -1,4 +1,4 @@
-//! abc STORE: lines from standard input, replies to standard output, the workspace in the file STORE.
+//! abc STORE [--from FILE] [--steps N]: lines from standard input or the file, replies to standard output, the workspace in the file STORE.
 #![tactic(auto)]
 
 use abc_outside::RealHost;

@@ -6,6 +6,7 @@ ghost use Rattle.abc_value.specs.declared.faults.RunFault.TheVariants.{Memory, B
 ghost use Rattle.abc_acts.specs.declared.halt.Halt.TheVariants.{Fault};
 ghost use Rattle.abc_num.specs.declared.limits.TheConstants.{MOST_LINE_BYTES};
 ghost use Rattle.abc_outside.specs.Outside.{RoseByOne};
+ghost use Rattle.abc_outside.specs.Lines.{Called, Failed};
 ghost use Rattle.abc_meaning.specs.State.{State};
 ghost use Rattle.abc_meaning.specs.Here.{Here};
 ghost use Rattle.abc_meaning.specs.Fits.{agree, example_form};
@@ -38,14 +39,16 @@ pub enum LineHalt {
 
 /// Takes the next line of the input.
 pub fn take_line<L: Lines>(lines: &mut L) -> Result<RawLine, LineHalt>
-    ensures agrees { L.tells_unread → (here : Here) (s : State) → Reads here.line result (with_lines (L.unread lines.old) s) (with_lines (L.unread lines.new) s) (take_line here (with_lines (L.unread lines.old) s)) }
-    ensures short { L.tells_unread → IfOk result (λ line. length line.bytes ≤ MOST_LINE_BYTES) }
+    ensures may_be { (input : L.Input) → L.may_be input lines.new → L.may_be input lines.old }
+    ensures agrees { (input : L.Input) → L.may_be input lines.new → (here : Here) (s : State) → Reads here.line result (with_lines (L.unread input lines.old) s) (with_lines (L.unread input lines.new) s) (take_line here (with_lines (L.unread input lines.old) s)) }
+    ensures short { (input : L.Input) → L.may_be input lines.new → IfOk result (λ line. length line.bytes ≤ MOST_LINE_BYTES) }
+    ensures calls { Called L.reads_on (λ l. l ≡ lines.old) lines.old lines.new }
+    ensures failed { (IsErrOf result LineHalt.Long ⊎ IsErrOf result LineHalt.Input) → Failed L.failed (λ l. l ≡ lines.old) lines.new }
     ensures bound { L.bound lines.new ≡ L.bound lines.old }
     ensures taken { L.taken lines.old ≤ L.taken lines.new }
     ensures long { IsErrOf result LineHalt.Long → L.taken lines.new ≡ L.bound lines.new }
     ensures input { IsErrOf result LineHalt.Input → RoseByOne (L.faults lines.old) (L.faults lines.new) }
     ensures faultless { ¬ (IsErrOf result LineHalt.Input) → L.faults lines.new ≡ L.faults lines.old }
-    ensures reads_on { L.reads_on lines.old lines.new }
 {
     lines_are_in_order();
     match lines.next() {

@@ -1,7 +1,8 @@
 -- What an answer of run_item says of the meaning of a command.
-use Rattle.std.specs.Prelude.{◌≡◌, ℕ, List, Result, Ok, Err}
+use Rattle.std.specs.Prelude.{◌≡◌, ℕ, false, List, [], Result, Ok, Err}
 use Rattle.abc_num.specs.declared.lines.RawLine.{RawLine}
 use Rattle.abc_frames.specs.Maps.{Targets}
+use Rattle.abc_outside.specs.Lines.{Unread, lines_in}
 use Rattle.abc_meaning.specs.State.{wants}
 use Rattle.abc_meaning.specs.Ran.{Ran as Meant, stopped}
 use Rattle.abc_machine.specs.Outcomes.{outcome_of}
@@ -23,3 +24,7 @@ IsRun (Ok r) targets lines g = g ≡ as_meant r targets lines
 IsRun (Err Long) targets lines g = WantsLine g
 IsRun (Err Input) targets lines g = Unit {0}
 IsRun (Err Memory) targets lines g = Unit {0}
+
+-- The reader is one on which a line is wanted: so the run over each input does that may be there, goes on, and has no line there yet.
+abbrev pub WantsThere : {L Input : Type 0} → (Input → L → Type 0) → (Input → L → Unread) → (Input → Type 0) → L → Type 0
+WantsThere may_be unread wanted there = (input : _) → may_be input there → lines_in (unread input there) ≡ [] → (unread input there).ends ≡ false → wanted input

@@ -5,3 +5,6 @@ mod running;
 
 pub use abc_machine::{Outcome, RunStop};
 pub use running::{Ran, run_item};
+
+#[cfg(test)]
+mod tests;

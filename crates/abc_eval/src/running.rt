@@ -1,12 +1,13 @@
 //! The run of an immediate command, whole or not at all.
-ghost use Rattle.std.specs.Prelude.{◌≡◌, ◌≤◌, ◌+◌, IfOk, OnErr, IsErrOf};
+ghost use Rattle.std.specs.Prelude.{◌≡◌, ◌≤◌, ◌+◌, ◌⊎◌, true, IfOk, OnErr, IsErrOf};
 ghost use Rattle.abc_num.specs.declared.limits.TheConstants.{MOST_DEPTH};
-ghost use Rattle.abc_outside.specs.Lines.{lines_in};
+ghost use Rattle.abc_outside.specs.Lines.{lines_in, Called, Failed};
 ghost use Rattle.abc_outside.specs.Outside.{RoseByOne};
+ghost use Rattle.abc_meaning.specs.Laws.{wants_line};
 ghost use Rattle.abc_meaning.specs.Meaning.{meaning};
 ghost use Rattle.abc_meaning.specs.Ran.{ran, standing, starting};
 ghost use Rattle.abc_machine.specs.Outcomes.{HasMemory};
-ghost use Rattle.abc_eval.specs.Runs.{IsRun};
+ghost use Rattle.abc_eval.specs.Runs.{IsRun, WantsLine, WantsThere};
 ghost use Rattle.abc_machine.specs.Machine.{IsBusy, IsOf, pending, state_within};
 ghost use Rattle.abc_eval.specs.inner.Coming.{Comes, Ends, settled};
 
@@ -36,7 +37,8 @@ pub fn run_item<L: Lines>(
     lines: &mut L,
     steps: u64,
 ) -> Result<Ran, RunStop>
-    ensures ran { L.tells_unread → IsRun result targets.new (lines_in (L.unread lines.new)) (ran units.now MOST_DEPTH c.now targets.old (lines_in (L.unread lines.old)) (L.unread lines.old).ends steps) }
+    ensures may_be { (input : L.Input) → L.may_be input lines.new → L.may_be input lines.old }
+    ensures ran { (input : L.Input) → L.may_be input lines.new → IsRun result targets.new (lines_in (L.unread input lines.new)) (ran units.now MOST_DEPTH c.now targets.old (lines_in (L.unread input lines.old)) (L.unread input lines.old).ends steps) }
     ensures memory { IfOk result (λ r. HasMemory r.outcome) }
     ensures steps { IfOk result (λ r. r.steps ≤ steps) }
     ensures kept { OnErr result (targets.new ≡ targets.old) }
@@ -45,7 +47,8 @@ pub fn run_item<L: Lines>(
     ensures long { IsErrOf result RunStop.Long → L.taken lines.new ≡ L.bound lines.new }
     ensures input { IsErrOf result RunStop.Input → RoseByOne (L.faults lines.old) (L.faults lines.new) }
     ensures faultless { ¬ (IsErrOf result RunStop.Input) → L.faults lines.new ≡ L.faults lines.old }
-    ensures reads_on { L.reads_on lines.old lines.new }
+    ensures calls { Called L.reads_on (WantsThere L.may_be L.unread (λ input. WantsLine (ran units.now MOST_DEPTH c.now targets.old (lines_in (L.unread input lines.old)) (L.unread input lines.old).ends steps))) lines.old lines.new }
+    ensures failed { (IsErrOf result RunStop.Long ⊎ IsErrOf result RunStop.Input) → Failed L.failed (WantsThere L.may_be L.unread (λ input. WantsLine (ran units.now MOST_DEPTH c.now targets.old (lines_in (L.unread input lines.old)) (L.unread input lines.old).ends steps))) lines.new }
 {
     let before = match targets.keep() {
         Ok(kept) => kept,
@@ -65,7 +68,8 @@ fn run<L: Lines>(
     lines: &mut L,
     budget: u64,
 ) -> Result<Ran, RunStop>
-    ensures ran { L.tells_unread → Comes result targets.new (L.unread lines.new) budget ((meaning units.now (MOST_DEPTH + 1)).acts (standing c.now) c.now.action (starting targets.old (lines_in (L.unread lines.old)) (L.unread lines.old).ends budget)) }
+    ensures may_be { (input : L.Input) → L.may_be input lines.new → L.may_be input lines.old }
+    ensures ran { (input : L.Input) → L.may_be input lines.new → Comes result targets.new (L.unread input lines.new) budget ((meaning units.now (MOST_DEPTH + 1)).acts (standing c.now) c.now.action (starting targets.old (lines_in (L.unread input lines.old)) (L.unread input lines.old).ends budget)) }
     ensures memory { IfOk result (λ r. HasMemory r.outcome) }
     ensures steps { IfOk result (λ r. r.steps ≤ budget) }
     ensures bound { L.bound lines.new ≡ L.bound lines.old }
@@ -73,7 +77,8 @@ fn run<L: Lines>(
     ensures long { IsErrOf result RunStop.Long → L.taken lines.new ≡ L.bound lines.new }
     ensures input { IsErrOf result RunStop.Input → RoseByOne (L.faults lines.old) (L.faults lines.new) }
     ensures faultless { ¬ (IsErrOf result RunStop.Input) → L.faults lines.new ≡ L.faults lines.old }
-    ensures reads_on { L.reads_on lines.old lines.new }
+    ensures calls { Called L.reads_on (WantsThere L.may_be L.unread (λ input. wants_line ((meaning units.now (MOST_DEPTH + 1)).acts (standing c.now) c.now.action (starting targets.old (lines_in (L.unread input lines.old)) (L.unread input lines.old).ends budget)) ≡ true)) lines.old lines.new }
+    ensures failed { (IsErrOf result RunStop.Long ⊎ IsErrOf result RunStop.Input) → Failed L.failed (WantsThere L.may_be L.unread (λ input. wants_line ((meaning units.now (MOST_DEPTH + 1)).acts (standing c.now) c.now.action (starting targets.old (lines_in (L.unread input lines.old)) (L.unread input lines.old).ends budget)) ≡ true)) lines.new }
 {
     let mut machine = match Machine::start(alloc, c) {
         Ok(machine) => machine,
@@ -96,7 +101,8 @@ fn drive<'a, L: Lines>(
     requires busy { IsBusy machine.old }
     requires of { IsOf units.now machine.old }
     requires steps { machine.old.steps ≤ budget }
-    ensures ends { L.tells_unread → Ends result (state_within machine.new targets.new (L.unread lines.new) budget) (pending units.now machine.old (state_within machine.old targets.old (L.unread lines.old) budget)) }
+    ensures may_be { (input : L.Input) → L.may_be input lines.new → L.may_be input lines.old }
+    ensures ends { (input : L.Input) → L.may_be input lines.new → Ends result (state_within machine.new targets.new (L.unread input lines.new) budget) (pending units.now machine.old (state_within machine.old targets.old (L.unread input lines.old) budget)) }
     ensures memory { IfOk result HasMemory }
     ensures steps { machine.new.steps ≤ budget }
     ensures bound { L.bound lines.new ≡ L.bound lines.old }
@@ -104,7 +110,8 @@ fn drive<'a, L: Lines>(
     ensures long { IsErrOf result RunStop.Long → L.taken lines.new ≡ L.bound lines.new }
     ensures input { IsErrOf result RunStop.Input → RoseByOne (L.faults lines.old) (L.faults lines.new) }
     ensures faultless { ¬ (IsErrOf result RunStop.Input) → L.faults lines.new ≡ L.faults lines.old }
-    ensures reads_on { L.reads_on lines.old lines.new }
+    ensures calls { Called L.reads_on (WantsThere L.may_be L.unread (λ input. wants_line (pending units.now machine.old (state_within machine.old targets.old (L.unread input lines.old) budget)) ≡ true)) lines.old lines.new }
+    ensures failed { (IsErrOf result RunStop.Long ⊎ IsErrOf result RunStop.Input) → Failed L.failed (WantsThere L.may_be L.unread (λ input. wants_line (pending units.now machine.old (state_within machine.old targets.old (L.unread input lines.old) budget)) ≡ true)) lines.new }
 {
     'turn: loop {
         match machine.step(targets, units, lines, budget) {

@@ -1,11 +1,12 @@
 //! The machine: what is pending of a run, and one step of it.
-ghost use Rattle.std.specs.Prelude.{◌≡◌, ◌≤◌, ◌+◌, ◌-◌, ◌<◌, ℕ, Bool, List, [], IfOk, IsErrOf, IsNone, map};
+ghost use Rattle.std.specs.Prelude.{◌≡◌, ◌≤◌, ◌+◌, ◌-◌, ◌<◌, ◌⊎◌, ℕ, Bool, true, List, [], IfOk, IsErrOf, IsNone, map};
 ghost use Rattle.abc_num.specs.declared.limits.TheConstants.{MOST_DEPTH};
 ghost use Rattle.abc_num.specs.declared.lines.RawLine.{RawLine};
 ghost use Rattle.abc_tree.specs.declared.commands.Unit.{Unit as Routine};
 ghost use Rattle.abc_frames.specs.Maps.{Targets as Store};
-ghost use Rattle.abc_outside.specs.Lines.{Unread, lines_in};
+ghost use Rattle.abc_outside.specs.Lines.{Unread, lines_in, none_yet, Called, Failed};
 ghost use Rattle.abc_outside.specs.Outside.{RoseByOne};
+ghost use Rattle.abc_meaning.specs.Laws.{wants_line};
 ghost use Rattle.abc_meaning.specs.Meaning.{meaning};
 ghost use Rattle.abc_meaning.specs.Ran.{standing, starting};
 ghost use Rattle.abc_acts.specs.Views.{scope_of};
@@ -75,7 +76,8 @@ impl<'a> Machine<'a> {
         budget: u64,
     ) -> Result<Stepped, RunStop>
         requires { IsBusy self.old }
-        ensures leads { L.tells_unread → Steps units.now result self.new (state_within self.new targets.new (L.unread lines.new) budget) (pending units.now self.old (state_within self.old targets.old (L.unread lines.old) budget)) }
+        ensures may_be { (input : L.Input) → L.may_be input lines.new → L.may_be input lines.old }
+        ensures leads { (input : L.Input) → L.may_be input lines.new → Steps units.now result self.new (state_within self.new targets.new (L.unread input lines.new) budget) (pending units.now self.old (state_within self.old targets.old (L.unread input lines.old) budget)) }
         ensures busy { IfMore result (IsBusy self.new) }
         ensures of { IsOf units.now self.old → IfMore result (IsOf units.now self.new) }
         ensures steps { (self.old.steps ≤ self.new.steps) × (self.new.steps ≤ self.old.steps + 1) }
@@ -87,7 +89,8 @@ impl<'a> Machine<'a> {
         ensures long { IsErrOf result RunStop.Long → L.taken lines.new ≡ L.bound lines.new }
         ensures input { IsErrOf result RunStop.Input → RoseByOne (L.faults lines.old) (L.faults lines.new) }
         ensures faultless { ¬ (IsErrOf result RunStop.Input) → L.faults lines.new ≡ L.faults lines.old }
-        ensures reads_on { L.reads_on lines.old lines.new }
+        ensures calls { Called L.reads_on (λ l. (l ≡ lines.old) × (wants_line (pending units.now self.old (state_within self.old targets.old none_yet budget)) ≡ true)) lines.old lines.new }
+        ensures failed { (IsErrOf result RunStop.Long ⊎ IsErrOf result RunStop.Input) → Failed L.failed (λ l. (l ≡ lines.old) × (wants_line (pending units.now self.old (state_within self.old targets.old none_yet budget)) ≡ true)) lines.new }
     {
         let left = budget.saturating_sub(self.steps);
         self.run.left = left;
@@ -104,7 +107,8 @@ impl<'a> Machine<'a> {
         lines: &mut L,
     ) -> Result<Stepped, RunStop>
         requires { IsBusy self.old }
-        ensures leads { L.tells_unread → Steps units.now result self.new (state_with self.new.run targets.new (L.unread lines.new)) (pending units.now self.old (state_with self.old.run targets.old (L.unread lines.old))) }
+        ensures may_be { (input : L.Input) → L.may_be input lines.new → L.may_be input lines.old }
+        ensures leads { (input : L.Input) → L.may_be input lines.new → Steps units.now result self.new (state_with self.new.run targets.new (L.unread input lines.new)) (pending units.now self.old (state_with self.old.run targets.old (L.unread input lines.old))) }
         ensures busy { IfMore result (IsBusy self.new) }
         ensures of { IsOf units.now self.old → IfMore result (IsOf units.now self.new) }
         ensures steps { self.new.steps ≡ self.old.steps }
@@ -116,7 +120,8 @@ impl<'a> Machine<'a> {
         ensures long { IsErrOf result RunStop.Long → L.taken lines.new ≡ L.bound lines.new }
         ensures input { IsErrOf result RunStop.Input → RoseByOne (L.faults lines.old) (L.faults lines.new) }
         ensures faultless { ¬ (IsErrOf result RunStop.Input) → L.faults lines.new ≡ L.faults lines.old }
-        ensures reads_on { L.reads_on lines.old lines.new }
+        ensures calls { Called L.reads_on (λ l. (l ≡ lines.old) × (wants_line (pending units.now self.old (state_with self.old.run targets.old none_yet)) ≡ true)) lines.old lines.new }
+        ensures failed { (IsErrOf result RunStop.Long ⊎ IsErrOf result RunStop.Input) → Failed L.failed (λ l. (l ≡ lines.old) × (wants_line (pending units.now self.old (state_with self.old.run targets.old none_yet)) ≡ true)) lines.new }
     {
         let Some(doing) = self.doing.take() else {
             unreachable!()

@@ -1,11 +1,13 @@
 //! Moves of the machine: what waits is put on the stack and taken off again.
-ghost use Rattle.std.specs.Prelude.{◌≡◌, ◌≤◌, ◌+◌, Bool, List, ℕ, map, Ok, Err, IfErr, IsErrOf};
+ghost use Rattle.std.specs.Prelude.{◌≡◌, ◌≤◌, ◌+◌, ◌⊎◌, Bool, true, List, ℕ, map, Ok, Err, IfErr, IsErrOf};
 ghost use Rattle.abc_num.specs.declared.lines.RawLine.{RawLine};
 ghost use Rattle.abc_tree.specs.declared.commands.Unit.{Unit as Routine};
 ghost use Rattle.abc_frames.specs.Maps.{Targets as Store};
+ghost use Rattle.abc_outside.specs.Lines.{none_yet, Called, Failed};
 ghost use Rattle.abc_outside.specs.Outside.{RoseByOne};
 ghost use Rattle.abc_meaning.specs.State.{State, Got, gives};
 ghost use Rattle.abc_meaning.specs.Here.{Scope as Names};
+ghost use Rattle.abc_meaning.specs.Laws.{wants_line};
 ghost use Rattle.abc_acts.specs.Agrees.{Halts};
 ghost use Rattle.abc_acts.specs.Views.{scope_of, state_of};
 ghost use Rattle.abc_acts.specs.declared.halt.Halt.TheVariants.{Fault};
@@ -146,7 +148,8 @@ fn work_on<'a, L: Lines>(
     targets: &mut Targets,
     lines: &mut L,
 ) -> Result<Moved<'a>, RunStop>
-    ensures leads { L.tells_unread → Follows units.now (scope_of scope.new) result (map frame_of frames.new) (state_with run.new targets.new (L.unread lines.new)) (leads units.now (scope_of scope.old) (map frame_of frames.old) (now units.now (scope_of scope.old) work.entry.0 (job_of work.entry.1) (state_with run.old targets.old (L.unread lines.old)))) }
+    ensures may_be { (input : L.Input) → L.may_be input lines.new → L.may_be input lines.old }
+    ensures leads { (input : L.Input) → L.may_be input lines.new → Follows units.now (scope_of scope.new) result (map frame_of frames.new) (state_with run.new targets.new (L.unread input lines.new)) (leads units.now (scope_of scope.old) (map frame_of frames.old) (now units.now (scope_of scope.old) work.entry.0 (job_of work.entry.1) (state_with run.old targets.old (L.unread input lines.old)))) }
     ensures within { AreWithin units.now (scope_of scope.old) (map frame_of frames.old) → IfGoes result (AreWithin units.now (scope_of scope.new) (map frame_of frames.new)) }
     ensures left { (run.new.left ≤ run.old.left) × (run.old.left ≤ run.new.left + 1) }
     ensures falls { AreWithin units.now (scope_of scope.old) (map frame_of frames.old) → Lessens units.now result (map frame_of frames.new) run.new.left (job_weight (job_of work.entry.1) + frames_weight (map frame_of frames.old)) run.old.left }
@@ -156,7 +159,8 @@ fn work_on<'a, L: Lines>(
     ensures long { IsErrOf result RunStop.Long → L.taken lines.new ≡ L.bound lines.new }
     ensures input { IsErrOf result RunStop.Input → RoseByOne (L.faults lines.old) (L.faults lines.new) }
     ensures faultless { ¬ (IsErrOf result RunStop.Input) → L.faults lines.new ≡ L.faults lines.old }
-    ensures reads_on { L.reads_on lines.old lines.new }
+    ensures calls { Called L.reads_on (λ l. (l ≡ lines.old) × (wants_line (leads units.now (scope_of scope.old) (map frame_of frames.old) (now units.now (scope_of scope.old) work.entry.0 (job_of work.entry.1) (state_with run.old targets.old none_yet))) ≡ true)) lines.old lines.new }
+    ensures failed { (IsErrOf result RunStop.Long ⊎ IsErrOf result RunStop.Input) → Failed L.failed (λ l. (l ≡ lines.old) × (wants_line (leads units.now (scope_of scope.old) (map frame_of frames.old) (now units.now (scope_of scope.old) work.entry.0 (job_of work.entry.1) (state_with run.old targets.old none_yet))) ≡ true)) lines.new }
 {
     match begin(alloc, units, scope, work, run, targets, lines) {
         Ok(next) => go_on(frames, next),
@@ -176,7 +180,8 @@ fn begin_command<'a, L: Lines>(
     run: &mut Run,
     lines: &mut L,
 ) -> Result<Moved<'a>, RunStop>
-    ensures leads { (units : List Routine) (targets : Store) → L.tells_unread → Follows units (scope_of scope.now) result (map frame_of frames.new) (state_with run.new targets (L.unread lines.new)) (leads units (scope_of scope.now) (map frame_of frames.old) (given units (scope_of scope.now) (Item place action.entry) (state_with run.old targets (L.unread lines.old)))) }
+    ensures may_be { (input : L.Input) → L.may_be input lines.new → L.may_be input lines.old }
+    ensures leads { (units : List Routine) (targets : Store) (input : L.Input) → L.may_be input lines.new → Follows units (scope_of scope.now) result (map frame_of frames.new) (state_with run.new targets (L.unread input lines.new)) (leads units (scope_of scope.now) (map frame_of frames.old) (given units (scope_of scope.now) (Item place action.entry) (state_with run.old targets (L.unread input lines.old)))) }
     ensures within { (units : List Routine) → AreWithin units (scope_of scope.now) (map frame_of frames.old) → IfGoes result (AreWithin units (scope_of scope.now) (map frame_of frames.new)) }
     ensures left { (run.new.left ≤ run.old.left) × (run.old.left ≤ run.new.left + 1) }
     ensures falls { (units : List Routine) → Lessens units result (map frame_of frames.new) run.new.left (action_size action.now + frames_weight (map frame_of frames.old)) run.old.left }
@@ -186,7 +191,8 @@ fn begin_command<'a, L: Lines>(
     ensures long { IsErrOf result RunStop.Long → L.taken lines.new ≡ L.bound lines.new }
     ensures input { IsErrOf result RunStop.Input → RoseByOne (L.faults lines.old) (L.faults lines.new) }
     ensures faultless { ¬ (IsErrOf result RunStop.Input) → L.faults lines.new ≡ L.faults lines.old }
-    ensures reads_on { L.reads_on lines.old lines.new }
+    ensures calls { Called L.reads_on (λ l. (l ≡ lines.old) × ((units : List Routine) (targets : Store) → wants_line (leads units (scope_of scope.now) (map frame_of frames.old) (given units (scope_of scope.now) (Item place action.entry) (state_with run.old targets none_yet))) ≡ true)) lines.old lines.new }
+    ensures failed { (IsErrOf result RunStop.Long ⊎ IsErrOf result RunStop.Input) → Failed L.failed (λ l. (l ≡ lines.old) × ((units : List Routine) (targets : Store) → wants_line (leads units (scope_of scope.now) (map frame_of frames.old) (given units (scope_of scope.now) (Item place action.entry) (state_with run.old targets none_yet))) ≡ true)) lines.new }
 {
     match begin_item(alloc, scope, place, action, run, lines) {
         Ok(next) => go_on(frames, next),
@@ -207,7 +213,8 @@ pub fn advance<'a, L: Lines>(
     targets: &mut Targets,
     lines: &mut L,
 ) -> Result<Moved<'a>, RunStop>
-    ensures leads { L.tells_unread → Follows units.now (scope_of scope.new) result (map frame_of frames.new) (state_with run.new targets.new (L.unread lines.new)) (leads units.now (scope_of scope.old) (map frame_of frames.old) (given units.now (scope_of scope.old) doing.entry (state_with run.old targets.old (L.unread lines.old)))) }
+    ensures may_be { (input : L.Input) → L.may_be input lines.new → L.may_be input lines.old }
+    ensures leads { (input : L.Input) → L.may_be input lines.new → Follows units.now (scope_of scope.new) result (map frame_of frames.new) (state_with run.new targets.new (L.unread input lines.new)) (leads units.now (scope_of scope.old) (map frame_of frames.old) (given units.now (scope_of scope.old) doing.entry (state_with run.old targets.old (L.unread input lines.old)))) }
     ensures within { AreWithin units.now (scope_of scope.old) (map frame_of frames.old) → IfGoes result (AreWithin units.now (scope_of scope.new) (map frame_of frames.new)) }
     ensures left { (run.new.left ≤ run.old.left) × (run.old.left ≤ run.new.left + 1) }
     ensures falls { AreWithin units.now (scope_of scope.old) (map frame_of frames.old) → Lessens units.now result (map frame_of frames.new) run.new.left (given_weight doing.entry + frames_weight (map frame_of frames.old)) run.old.left }
@@ -217,7 +224,8 @@ pub fn advance<'a, L: Lines>(
     ensures long { IsErrOf result RunStop.Long → L.taken lines.new ≡ L.bound lines.new }
     ensures input { IsErrOf result RunStop.Input → RoseByOne (L.faults lines.old) (L.faults lines.new) }
     ensures faultless { ¬ (IsErrOf result RunStop.Input) → L.faults lines.new ≡ L.faults lines.old }
-    ensures reads_on { L.reads_on lines.old lines.new }
+    ensures calls { Called L.reads_on (λ l. (l ≡ lines.old) × (wants_line (leads units.now (scope_of scope.old) (map frame_of frames.old) (given units.now (scope_of scope.old) doing.entry (state_with run.old targets.old none_yet))) ≡ true)) lines.old lines.new }
+    ensures failed { (IsErrOf result RunStop.Long ⊎ IsErrOf result RunStop.Input) → Failed L.failed (λ l. (l ≡ lines.old) × (wants_line (leads units.now (scope_of scope.old) (map frame_of frames.old) (given units.now (scope_of scope.old) doing.entry (state_with run.old targets.old none_yet))) ≡ true)) lines.new }
 {
     match doing {
         Doing::Item(place, action) => {

@@ -25,6 +25,7 @@ use Rattle.abc_meaning.specs.Deeper.{Deeper, Actual}
 use Rattle.abc_meaning.specs.Changing.{Change, puts, inserts, removes, deletes, Part as Place, changed, formal_named, marked}
 use Rattle.abc_meaning.specs.Reading.{take_line}
 use Rattle.abc_meaning.specs.Acts.{say}
+use Rattle.abc_meaning.specs.Laws.{is_wanting}
 use Rattle.abc_meaning.proofs.Opened.{InExpr, InTest, InAction, InSuite, AllParts}
 
 -- What is said of the lines of stops, of values, of lines of the input, and of targets, names and formals.
@@ -156,7 +157,7 @@ module _ (facts : Facts) where
     -- targets, names and formals of a state has to stay so where one changes.
     pub record IsLaw : Type 1 where
       pub giving : {A : Type 0} {Q : A → Type 0} (a : A) → Q a → Good Q (λ s. gives a s)
-      pub stopping : {A : Type 0} {Q : A → Type 0} (line : ℕ) (stop : Stop) → facts.IsLine line → Good Q (λ s. stops line stop s)
+      pub stopping : {A : Type 0} {Q : A → Type 0} (line : ℕ) (stop : Stop) → is_wanting stop ≡ false → facts.IsLine line → Good Q (λ s. stops line stop s)
       pub going_on : {A B : Type 0} {Q : A → Type 0} {R : B → Type 0} (run : Run A) (go : A → Run B) → Good Q run → ((a : A) → Q a → Good R (go a)) → Good R (λ s. after (run s) go)
       pub seeing : {A : Type 0} {Q : A → Type 0} (go : Targets → Frame → List Formal → Run A)
           → ((targets : Targets) (names : Frame) (formals : List Formal) → facts.HasTargets targets → facts.HasNames names → facts.HasFormals formals → Good Q (go targets names formals))

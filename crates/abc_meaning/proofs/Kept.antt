@@ -55,7 +55,7 @@ module _ (R : State → State → Type 0) where
     is_law : IsLaw (unsaid Keeps Any Any Any) Keeps
     is_law = record {
       giving = λ a q. record { ends = λ s. (kept.same s, q) };
-      stopping = λ line stop _. record { ends = λ s. kept.same s };
+      stopping = λ line stop _ _. record { ends = λ s. kept.same s };
       going_on = λ {A} {B} {Q} {R = Q2} run go h k. record { ends = λ s. after_keeps Q Q2 s (run s) go (h.ends s) k };
       seeing = λ go h. record { ends = λ s. (h s.targets s.names s.formals tt tt tt).ends s };
       setting = λ targets names formals _ _ _. record { ends = λ s. (kept.placed targets names formals s, tt) };

@@ -67,7 +67,7 @@ module _ (more : List RawLine) (to : Bool) where
   is_law : IsLaw (unsaid Stays Any Any Any) Stays
   is_law = record {
     giving = λ a q. record { on = λ s o. (o, q); same = λ s o w. refl };
-    stopping = λ line stop _. record { on = λ s o. o; same = λ s o w. refl };
+    stopping = λ line stop _ _. record { on = λ s o. o; same = λ s o w. refl };
     going_on = λ {A} {B} {Q} {R = Q2} run go h k. record {
       on = λ s o. after_open Q Q2 (run s) go (h.on s o) k;
       same = λ s o w. after_same Q Q2 (run s) (run (longer more to s)) go (h.same s o) (h.on s o) k w;
@@ -115,7 +115,7 @@ ran_same : (before : Targets) (budget : ℕ) (more : List RawLine) (to : Bool) (
 ran_same before budget more to (gives flow s) = refl
 ran_same before budget more to (stops line stop s) = refl
 
-ran_wants : (before : Targets) (budget : ℕ) (g : Got Flow) → wants_more (ran_as before budget g).outcome ≡ wants_line g
+pub ran_wants : (before : Targets) (budget : ℕ) (g : Got Flow) → wants_more (ran_as before budget g).outcome ≡ wants_line g
 ran_wants before budget (gives quits s) = refl
 ran_wants before budget (gives goes_on s) = refl
 ran_wants before budget (gives (returns v) s) = refl

@@ -64,7 +64,7 @@ take_stays here (line ∷ lines) ended s h = h
 is_law : IsLaw (unsaid Stays Any Any InPlace) Stays
 is_law = record {
   giving = λ a q. record { ends = λ s h. (h, q) };
-  stopping = λ line stop _. record { ends = λ s h. h };
+  stopping = λ line stop _ _. record { ends = λ s h. h };
   going_on = λ {A} {B} {Q} {R = Q2} run go h k. record { ends = λ s o. after_stays Q Q2 (run s) go (h.ends s o) k };
   seeing = λ go h. record { ends = λ s o. (h s.targets s.names s.formals tt tt o).ends s o };
   setting = λ targets names formals _ _ f. record { ends = λ s o. (f, tt) };

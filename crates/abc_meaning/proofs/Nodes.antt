@@ -51,6 +51,8 @@ use Rattle.abc_meaning.specs.PutBack.{Entry, entry, named, with_formal, along, h
 use Rattle.abc_meaning.specs.Acts.{say, checked, written, succeeds, select, turns, each, each_of, acts_with}
 use Rattle.abc_meaning.specs.Meaning.{meaning}
 use Rattle.abc_meaning.proofs.Opened.{together, one_more, InPiece, InFill, InPair, InLayer, InTestLayer, InNode, InWay, in_expr, in_test, in_action, in_body}
+use Rattle.abc_meaning.specs.Laws.{is_wanting}
+use Rattle.abc_meaning.proofs.Decided.{IsDecided, decided}
 use Rattle.abc_meaning.proofs.Asked.{Facts, placing, Any, HasAny, HaveAll, HavePairs, HaveSteps, HasAddress, HasAddressIfAny, HasPlace, HasChange, HasFlow, HasActual, OwnLine, FitsExpr, FitsTest, FitsPart, FitsAction, FitsSuite, FitsUnit, FitsScope, IsPlace, AreKept, IsLaw, IsGood}
 use Rattle.abc_meaning.proofs.Carried.{left, right, HaveBindings, HaveHeld, HavePlaces, HaveFields, if_any, to_names, listed_all, at_fields_have, binds, all_bind, fielded_has, train_have, parts_have, stepped_has, together_has, unit_fits, FitsRefinement, refinement_fits, name_fits, at_own_line, within_unit}
 
@@ -61,8 +63,8 @@ module _ (facts : Facts) (P : (A : Type 0) → (A → Type 0) → Run A → Type
   given : {A : Type 0} {Q : A → Type 0} {a : A} → Q a → Fine Q (λ s. gives a s)
   given {A} {Q} {a} h = law.giving {A = A} {Q = Q} a h
 
-  halted : {A : Type 0} {Q : A → Type 0} {here : Here} {stop : Stop} → IsPlace facts here → Fine {A = A} Q (λ s. stops here.line stop s)
-  halted {A} {Q} {here} {stop} at = law.stopping {A = A} {Q = Q} here.line stop at.line
+  halted : {A : Type 0} {Q : A → Type 0} {here : Here} {stop : Stop} → IsPlace facts here → is_wanting stop ≡ false → Fine {A = A} Q (λ s. stops here.line stop s)
+  halted {A} {Q} {here} {stop} at known = law.stopping {A = A} {Q = Q} here.line stop known at.line
 
   next : {A B : Type 0} {Q : A → Type 0} {R : B → Type 0} {run : Run A} {go : A → Run B} → Fine Q run → ((a : A) → Q a → Fine R (go a)) → Fine R (λ s. after (run s) go)
   next {A} {B} {Q} {R} {run} {go} h k = law.going_on {A = A} {B = B} {Q = Q} {R = R} run go h k
@@ -103,7 +105,7 @@ module _ (facts : Facts) (P : (A : Type 0) → (A → Type 0) → Run A → Type
   all_assigned scope (p ∷ ps) h = law.going_on (becomes (assign scope p.0 p.1)) (λ _. becomes (assign_all scope ps)) (assigning scope p.0 p.1 h.0) (λ _ _. all_assigned scope ps h.1)
 
   names_set : {here : Here} → IsPlace facts here → (bs : Option Bindings) → IfSome bs (HaveBindings facts) → Fine Any (set_names here bs)
-  names_set at None h = halted at
+  names_set at None h = halted at refl
   names_set {here} at (Some bs) h = all_assigned here.scope (map (λ b. (b.0, Some b.1)) bs) (to_names facts bs h)
 
   bound : {here : Here} → IsPlace facts here → (b : Bound) (v : Tree) → facts.HasTree v → Fine Any (bind here b v)
@@ -118,36 +120,36 @@ module _ (facts : Facts) (P : (A : Type 0) → (A → Type 0) → Run A → Type
 
   answered : {here : Here} → IsPlace facts here → (r : Result Tree ValueFault) → ((v : Tree) → r ≡ Ok v → facts.HasTree v) → Fine facts.HasTree (answer here r)
   answered at (Ok v) h = given (h v refl)
-  answered at (Err f) h = halted at
+  answered at (Err f) h = halted at refl
 
   row_answered : {here : Here} → IsPlace facts here → (r : Result Tree RunFault) → ((v : Tree) → r ≡ Ok v → facts.HasTree v) → Fine facts.HasTree (row_answer here r)
   row_answered at (Ok v) h = given (h v refl)
-  row_answered at (Err f) h = halted at
+  row_answered at (Err f) h = halted at refl
 
   is_there : {here : Here} → IsPlace facts here → (f : RunFault) (v : Option Tree) → HasAny facts v → Fine facts.HasTree (there here f v)
-  is_there at f None h = halted at
+  is_there at f None h = halted at refl
   is_there at f (Some v) h = given h
 
   is_composed : {here : Here} → IsPlace facts here → (vs : List Tree) → HaveAll facts vs → Fine facts.HasTree (composed here vs)
-  is_composed at vs h = if_fine _ (λ two. answered at _ (λ v is. kept.composed vs v h (left (nat_le 2 (length vs)) (list_all has_type vs) two) is)) (halted at)
+  is_composed at vs h = if_fine _ (λ two. answered at _ (λ v is. kept.composed vs v h (left (nat_le 2 (length vs)) (list_all has_type vs) two) is)) (halted at refl)
 
   is_selected : {here : Here} → IsPlace facts here → (t k : Tree) → facts.HasTree t → Fine facts.HasTree (selected here t k)
-  is_selected at t k h = if_fine _ (λ _. is_there at _ (associate_of k (pairs_of t)) (kept.found k t h)) (halted at)
+  is_selected at t k h = if_fine _ (λ _. is_there at _ (associate_of k (pairs_of t)) (kept.found k t h)) (halted at refl)
 
   is_range : {here : Here} → IsPlace facts here → (p q : Tree) → facts.HasTree p → facts.HasTree q → Fine facts.HasTree (range here p q)
-  is_range at p q h k = if_fine (have_range p q) (λ _. answered at (range_of p q) (λ v is. kept.ranged p q v h k is)) (halted at)
+  is_range at p q h k = if_fine (have_range p q) (λ _. answered at (range_of p q) (λ v is. kept.ranged p q v h k is)) (halted at refl)
 
   is_returned : {here : Here} → IsPlace facts here → (flow : Flow) → HasFlow facts flow → Fine facts.HasTree (returned here flow)
   is_returned at (returns v) h = given h
-  is_returned at goes_on h = halted at
-  is_returned at quits h = halted at
-  is_returned at (reports b) h = halted at
+  is_returned at goes_on h = halted at refl
+  is_returned at quits h = halted at refl
+  is_returned at (reports b) h = halted at refl
 
   is_reported : {here : Here} → IsPlace facts here → (flow : Flow) → Fine Any (reported here flow)
   is_reported at (reports b) = given tt
-  is_reported at goes_on = halted at
-  is_reported at quits = halted at
-  is_reported at (returns v) = halted at
+  is_reported at goes_on = halted at refl
+  is_reported at quits = halted at refl
+  is_reported at (returns v) = halted at refl
 
   gone_on : (flow : Flow) (rest : Run Flow) → HasFlow facts flow → Fine (HasFlow facts) rest → Fine (HasFlow facts) (then_on flow rest)
   gone_on goes_on rest f h = h
@@ -163,26 +165,26 @@ module _ (facts : Facts) (P : (A : Type 0) → (A → Type 0) → Run A → Type
     where
       if_address : (b : Bool) → is_some formal.address ≡ b → Fine Any (if b then becomes (λ s. record s { formals = marked i formals }) else fault here NotAnAddress)
       if_address true is = law.seeing (λ targets names _. becomes (placing targets names (marked i formals))) (λ targets names _ t n _. law.setting targets names _ t n (law.formal_marked i formals formal e is f))
-      if_address false is = halted at
+      if_address false is = halted at refl
 
   marks : {here : Here} → IsPlace facts here → (i : ℕ) → Fine Any (mark here i)
   marks {here} at i = law.seeing (λ targets names formals. marking here i formals (formal_named i formals)) (λ targets names formals t n f. is_marked at i formals (formal_named i formals) refl f)
 
-  is_assigned : {here : Here} → IsPlace facts here → (i : ℕ) (c : Changed) → ((v : Tree) → c ≡ Ok (Some v) → facts.HasTree v) → Fine Any (assigned here i c)
-  is_assigned {here} at i (Ok new) h = assigning here.scope i new (if_any facts new (λ v is. h v (ap Ok is)))
-  is_assigned at i (Err stop) h = halted at
+  is_assigned : {here : Here} → IsPlace facts here → (i : ℕ) (c : Changed) → IsDecided c → ((v : Tree) → c ≡ Ok (Some v) → facts.HasTree v) → Fine Any (assigned here i c)
+  is_assigned {here} at i (Ok new) known h = assigning here.scope i new (if_any facts new (λ v is. h v (ap Ok is)))
+  is_assigned at i (Err stop) known h = halted at known
 
   changes : {here : Here} → IsPlace facts here → (c : Change) (part : Place) → HasChange facts c → HasPlace facts part → Fine Any (change here c part)
   changes {here} at c part hc hp =
       next (marks at part.name) (λ _ _. looking here.scope part.name (λ old. assigned here part.name (changed c NoValue part.steps old))
-      (λ old ho. is_assigned at part.name _ (λ v is. kept.changes c NoValue part.steps old v hc hp ho is)))
+      (λ old ho. is_assigned at part.name _ (decided c NoValue part.steps old) (λ v is. kept.changes c NoValue part.steps old v hc hp ho is)))
 
   parts_put : {here : Here} → IsPlace facts here → (ps : List (Place × Tree)) → HaveFields facts ps → Fine Any (put_parts here ps)
   parts_put at [] h = given tt
   parts_put at (p ∷ ps) h = next (changes at (puts p.1) p.0 h.0.1 h.0.0) (λ _ _. parts_put at ps h.1)
 
   fields_put : {here : Here} → IsPlace facts here → (ps : Option (List (Place × Tree))) → IfSome ps (HaveFields facts) → Fine Any (put_fields here ps)
-  fields_put at None h = halted at
+  fields_put at None h = halted at refl
   fields_put at (Some ps) h = parts_put at ps h
 
   is_put : {here : Here} → IsPlace facts here → (a : Address) (v : Tree) → HasAddress facts a → facts.HasTree v → Fine Any (put here a v)
@@ -194,7 +196,7 @@ module _ (facts : Facts) (P : (A : Type 0) → (A → Type 0) → Run A → Type
 
   list_changed : {here : Here} → IsPlace facts here → (c : Change) (a : Address) → HasChange facts c → HasAddress facts a → Fine Any (change_list here c a)
   list_changed at c (place i steps) hc ha = changes at c _ hc ha
-  list_changed at c (several all) hc ha = halted at
+  list_changed at c (several all) hc ha = halted at refl
 
   -- ---- putting back
 
@@ -232,18 +234,18 @@ module _ (facts : Facts) (P : (A : Type 0) → (A → Type 0) → Run A → Type
   -- ---- lines and output
 
   raw_read : {here : Here} → IsPlace facts here → (l : RawLine) → facts.HasRaw l → Fine facts.HasTree (raw_value here l)
-  raw_read at l h = if_fine _ (λ both. given (kept.raw l h (right (not l.long) (are_characters l.bytes) both))) (halted at)
+  raw_read at l h = if_fine _ (λ both. given (kept.raw l h (right (not l.long) (are_characters l.bytes) both))) (halted at refl)
 
   has_form : {here : Here} → IsPlace facts here → (form : Option Form) (v : Option Tree) → HasAny facts v → Fine facts.HasTree (of_form here form v)
-  has_form at form None h = halted at
-  has_form at form (Some v) h = if_fine _ (λ _. given h) (halted at)
+  has_form at form None h = halted at refl
+  has_form at form (Some v) h = if_fine _ (λ _. given h) (halted at refl)
 
   literal_read : {here : Here} → IsPlace facts here → (form : Option Form) (l : RawLine) → facts.HasRaw l → Fine facts.HasTree (literal_value here form l)
-  literal_read at form l h = if_fine l.long (λ _. halted at) (has_form at form (literal_of l.bytes) (kept.literal l h))
+  literal_read at form l h = if_fine l.long (λ _. halted at refl) (has_form at form (literal_of l.bytes) (kept.literal l h))
 
   is_checked : {here : Here} → IsPlace facts here → (b : Bool) → Fine Any (checked here b)
   is_checked at true = given tt
-  is_checked at false = halted at
+  is_checked at false = halted at refl
 
   -- ---- nodes, where those one level deeper have it
 
@@ -275,11 +277,11 @@ module _ (facts : Facts) (P : (A : Type 0) → (A → Type 0) → Run A → Type
     all_bound (b ∷ bs) names h n = all_bound bs _ h.1 (law.name_valued b.0 b.1 names h.0 n)
 
     is_entered : {here : Here} → IsPlace facts here → (u : Routine) (bs : Option Bindings) → FitsUnit facts u → IfSome bs (HaveBindings facts) → Fine (HasFlow facts) (entered deep here u bs)
-    is_entered at u None fits h = halted at
+    is_entered at u None fits h = halted at refl
     is_entered at u (Some bs) fits h = over_body at u _ fits (all_bound bs [] h law.nameless)
 
     is_called : {here : Here} → IsPlace facts here → (unit : Option Routine) (vs : List Tree) → IfSome unit (FitsUnit facts) → HaveAll facts vs → Fine (HasFlow facts) (called deep here unit vs)
-    is_called at None vs fits h = halted at
+    is_called at None vs fits h = halted at refl
     is_called {here} at (Some u) vs fits h =
         next (law.spending here at.line) (λ _ _. is_entered at u (at_fields (map bindings u.formals) (trees vs)) fits (at_fields_have facts u.formals (all_bind facts kept u.formals) (trees vs) (listed_all facts vs h)))
 
@@ -343,22 +345,22 @@ module _ (facts : Facts) (P : (A : Type 0) → (A → Type 0) → Run A → Type
       is_value : {here : Here} → IsPlace facts here → (e : Expr-F Expr Fill Piece Pair) → InLayer (λ n. facts.HasTree (number n)) e → Fine facts.HasTree (value_with units deep here e)
       is_value at (Expr-F.Number n) h = given h
       is_value at (Expr-F.Text all) h =
-          next (all_pieces at all _ h) (λ found _. if_fine _ (λ both. answered at _ (λ v is. kept.worded found.characters v (right found.typed (are_characters found.characters) both) is)) (halted at))
+          next (all_pieces at all _ h) (λ found _. if_fine _ (λ both. answered at _ (λ v is. kept.worded found.characters v (right found.typed (are_characters found.characters) both) is)) (halted at refl))
       is_value {here} at (Expr-F.Name i) h = name_valued at i.0 _ (name_fits facts here.scope i.0 at.scope)
       is_value at (Expr-F.Compound es) h = next (all_values at es [] h tt) (λ vs hv. is_composed at vs hv)
       is_value at Expr-F.Empty h = given kept.nothing
-      is_value at (Expr-F.List fills) h = next (all_fillers at fills _ h tt) (λ found hf. if_fine _ (λ _. answered at _ (λ v is. kept.listed found.elements v hf is)) (halted at))
-      is_value at (Expr-F.Table pairs) h = next (all_entries at pairs _ h tt) (λ found hf. if_fine _ (λ _. answered at _ (λ v is. kept.tabled found.pairs v hf is)) (halted at))
+      is_value at (Expr-F.List fills) h = next (all_fillers at fills _ h tt) (λ found hf. if_fine _ (λ _. answered at _ (λ v is. kept.listed found.elements v hf is)) (halted at refl))
+      is_value at (Expr-F.Table pairs) h = next (all_entries at pairs _ h tt) (λ found hf. if_fine _ (λ _. answered at _ (λ v is. kept.tabled found.pairs v hf is)) (halted at refl))
       is_value at (Expr-F.Select t k) h = next (good.value at t h.0) (λ v hv. next (good.value at k h.1) (λ w _. is_selected at v w hv))
-      is_value at (Expr-F.Apply1 op x) h = next (good.value at x h) (λ v hv. if_fine _ (λ _. row_answered at _ (λ w is. kept.one op v w hv is)) (halted at))
+      is_value at (Expr-F.Apply1 op x) h = next (good.value at x h) (λ v hv. if_fine _ (λ _. row_answered at _ (λ w is. kept.one op v w hv is)) (halted at refl))
       is_value at (Expr-F.Apply2 op x y) h =
-          next (good.value at x h.0) (λ u hu. next (good.value at y h.1) (λ v hv. if_fine _ (λ _. row_answered at _ (λ w is. kept.two op u v w hu hv is)) (halted at)))
+          next (good.value at x h.0) (λ u hu. next (good.value at y h.1) (λ v hv. if_fine _ (λ _. row_answered at _ (λ w is. kept.two op u v w hu hv is)) (halted at refl)))
       is_value at (Expr-F.Call template es) h = next (all_values at es [] h tt) (λ vs hv. function_called at _ vs (unit_fits facts units template fit) hv)
 
     -- tests
 
     is_compared : {here : Here} → IsPlace facts here → (op : Op) (x y : Tree) → Fine Any (compared here op x y)
-    is_compared at op x y = if_fine (is_test_of op (x ∷ y ∷ [])) (λ _. given tt) (halted at)
+    is_compared at op x y = if_fine (is_test_of op (x ∷ y ∷ [])) (λ _. given tt) (halted at refl)
 
     in_chain : {here : Here} → IsPlace facts here → (x : Tree) (links : List Link) → HasEach (λ (l : Link). FitsExpr facts l.right) links → Fine Any (chain deep here x links)
     in_chain at x [] h = given tt
@@ -371,11 +373,11 @@ module _ (facts : Facts) (P : (A : Type 0) → (A → Type 0) → Run A → Type
         if_fine (decides q b) (λ _. given tt) (is_quantified at q names t before es ft hb he.1))))
 
     train_quantified : {here : Here} → IsPlace facts here → (q : Quantifier) (names : Bound) (t : Test) (es : Option (List Tree)) → FitsTest facts t → IfSome es (HaveAll facts) → Fine Any (over_train deep here q names t es)
-    train_quantified at q names t None ft he = halted at
+    train_quantified at q names t None ft he = halted at refl
     train_quantified {here} at q names t (Some es) ft he = holding here.scope (bound_names names) (λ before. quantified deep here q names t before es) (λ before hb. is_quantified at q names t before es ft hb he)
 
     refinement_tested : {here : Here} → IsPlace facts here → (r : Option Refinement) → IfSome r (FitsRefinement facts here.scope) → Fine Any (refinement_test deep here r)
-    refinement_tested at None h = halted at
+    refinement_tested at None h = halted at refl
     refinement_tested at (Some r) h = test_refined at r h
 
     is_test : (units : List Routine) → AllByRecursion (FitsUnit facts) units → {here : Here} → IsPlace facts here → (t : Test-F Test) → InTestLayer (λ n. facts.HasTree (number n)) t → Fine Any (holds_with units deep here t)
@@ -391,7 +393,7 @@ module _ (facts : Facts) (P : (A : Type 0) → (A → Type 0) → Run A → Type
     -- addresses
 
     is_whole : {here : Here} → IsPlace facts here → (found : Option Address) → HasAddressIfAny facts found → Fine (HasAddress facts) (whole here found)
-    is_whole at None h = halted at
+    is_whole at None h = halted at refl
     is_whole at (Some a) h = given h
 
     module _ {here : Here} (at : IsPlace facts here) (part : Expr → Run (Option Address)) (each_is : (e : Expr) → FitsExpr facts e → Fine (HasAddressIfAny facts) (part e)) where
@@ -489,41 +491,41 @@ module _ (facts : Facts) (P : (A : Type 0) → (A → Type 0) → Run A → Type
     entry_names (i ∷ names) [] h = tt
 
     with_body : {here : Here} → IsPlace facts here → (u : Routine) (e : Option Entry) → FitsUnit facts u → IfEntry e → Fine (HasFlow facts) (body_with deep here u e)
-    with_body at u None fits own = halted at
+    with_body at u None fits own = halted at refl
     with_body {here} at u (Some e) fits own = law.seeing
         (λ targets names formals s. after (suite deep (within u here) u.body (placing targets e.names e.formals s))
         (λ flow t. after (put_back here t.formals t.names (record t { names = names; formals = formals })) (λ _. gives goes_on)))
         (λ targets names formals t n f. next (placed_then targets e.names e.formals (suite deep (within u here) u.body) t own.0 own.1 (in_suite (within_unit facts at u fits) u.body (in_body _ u fits))) (λ flow _. end_of_call at names formals n f))
 
     with_actuals : {here : Here} → IsPlace facts here → (unit : Option Routine) (found : List Actual) → IfSome unit (FitsUnit facts) → HasEach (HasActual facts) found → Fine (HasFlow facts) (called_with deep here unit found)
-    with_actuals at None found fits h = halted at
+    with_actuals at None found fits h = halted at refl
     with_actuals {here} at (Some u) found fits h = next (law.spending here at.line) (λ _ _. with_body at u _ fits (entry_names (formal_names u) found h))
 
     command_called : {here : Here} → IsPlace facts here → (unit : Option Routine) (es : List Expr) → IfSome unit (FitsUnit facts) → HasEach (FitsExpr facts) es → Fine (HasFlow facts) (command_call deep here unit es)
     command_called at unit es fits h = next (all_actuals at es [] h tt) (λ found hf. with_actuals at unit found fits hf)
 
     command_refined : {here : Here} → IsPlace facts here → (r : Option Refinement) → IfSome r (FitsRefinement facts here.scope) → Fine (HasFlow facts) (command_refinement deep here r)
-    command_refined at None h = halted at
+    command_refined at None h = halted at refl
     command_refined {here} at (Some r) h = next (law.spending here at.line) (λ _ _. next (in_suite at r.suite h) (λ flow _. given tt))
 
     -- commands
 
     is_written : {here : Here} → IsPlace facts here → (e : Option Expr) → IfSome e (FitsExpr facts) → Fine Any (written deep here e)
     is_written at None h = given tt
-    is_written at (Some e) h = next (good.value at e h) (λ v _. if_fine (has_type v) (λ _. given tt) (halted at))
+    is_written at (Some e) h = next (good.value at e h) (λ v _. if_fine (has_type v) (λ _. given tt) (halted at refl))
 
     has_succeeded : (here : Here) {there : Here} → IsPlace facts there → (t : Option Test) → IfSome t (FitsTest facts) → Fine Any (succeeds deep here there t)
     has_succeeded here at None h = given tt
     has_succeeded here at (Some t) h = good.holds at t h
 
     one_selected : {here : Here} → IsPlace facts here → (ways : List Alternative) → HasEach (InWay (FitsPart facts here.scope)) ways → Fine (HasFlow facts) (select deep here ways)
-    one_selected at [] h = halted at
+    one_selected at [] h = halted at refl
     one_selected {here} at (a ∷ rest) h =
         next (has_succeeded here (at_own_line facts at (out-Alternative a).line h.0.0) (out-Alternative a).test h.0.1) (λ b _. if_fine b (λ _. in_suite at (out-Alternative a).suite h.0.2) (one_selected at rest h.1))
 
     all_turns : {here : Here} → IsPlace facts here → (n : ℕ) (t : Test) (body : List Action) → FitsTest facts t → FitsSuite facts here.scope body → Fine (HasFlow facts) (turns deep here n t body)
     unfolding turns
-    all_turns at zero t body ft fb = halted at
+    all_turns at zero t body ft fb = halted at refl
     all_turns at (suc n) t body ft fb = next (good.turn at t ft) (λ b _. if_fine b (λ _. next (in_suite at body fb) (λ flow f. gone_on flow _ f (all_turns at n t body ft fb))) (given tt))
 
     for_each : {here : Here} → IsPlace facts here → (names : Bound) (body : List Action) (es : List Tree) → FitsSuite facts here.scope body → HaveAll facts es → Fine (HasFlow facts) (each deep here names body es)
@@ -532,7 +534,7 @@ module _ (facts : Facts) (P : (A : Type 0) → (A → Type 0) → Run A → Type
         next (law.spending here at.line) (λ _ _. next (bound at names e he.0) (λ _ _. next (in_suite at body fb) (λ flow f. gone_on flow _ f (for_each at names body es fb he.1))))
 
     for_each_of : {here : Here} → IsPlace facts here → (names : Bound) (body : List Action) (es : Option (List Tree)) → FitsSuite facts here.scope body → IfSome es (HaveAll facts) → Fine (HasFlow facts) (each_of deep here names body es)
-    for_each_of at names body None fb he = halted at
+    for_each_of at names body None fb he = halted at refl
     for_each_of at names body (Some es) fb he = for_each at names body es fb he
 
     is_command : (units : List Routine) → AllByRecursion (FitsUnit facts) units → {here : Here} → IsPlace facts here → (a : ActionNode-F ActionNode Action Alternative) → InNode (FitsPart facts here.scope) a
@@ -564,11 +566,11 @@ module _ (facts : Facts) (P : (A : Type 0) → (A → Type 0) → Run A → Type
   pub all_nodes : (units : List Routine) → AllByRecursion (FitsUnit facts) units → (levels : ℕ) → IsGood facts P (meaning units levels)
   unfolding meaning
   all_nodes units fit zero = record {
-    value = λ at e h. halted at;
-    actual = λ at e h. halted at;
-    holds = λ at t h. halted at;
-    turn = λ at t h. halted at;
-    acts = λ at a h. halted (at_own_line facts at (out-Action a).line (in_action _ a h).0);
+    value = λ at e h. halted at refl;
+    actual = λ at e h. halted at refl;
+    holds = λ at t h. halted at refl;
+    turn = λ at t h. halted at refl;
+    acts = λ at a h. halted (at_own_line facts at (out-Action a).line (in_action _ a h).0) refl;
   }
   all_nodes units fit (suc n) = record {
     value = λ at e h. is_value (meaning units n) (all_nodes units fit n) units fit at (out-Expr e) (in_expr _ e h);

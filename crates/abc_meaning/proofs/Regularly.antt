@@ -124,7 +124,7 @@ take_leaves here (first ∷ lines) ended s l h = (l.0, record { targets = h.targ
 is_law : IsLaw facts Runs
 is_law = record {
   giving = λ a q. record { leaves = λ s h. (q, h) };
-  stopping = λ n stop _. record { leaves = λ s h. h };
+  stopping = λ n stop _ _. record { leaves = λ s h. h };
   going_on = λ {A} {B} {Q} {R = Q2} run go h k. record { leaves = λ s v. after_leaves Q Q2 (run s) go (h.leaves s v) k };
   seeing = λ go h. record { leaves = λ s v. (h s.targets s.names s.formals v.targets v.names v.formals).leaves s v };
   setting = λ targets names formals t n f. record { leaves = λ s v. (tt, record { targets = t; names = n; formals = f; lines = v.lines }) };

@@ -74,7 +74,7 @@ module _ (Allowed : ℕ → Type 0) where
   is_law : IsLaw (facts Allowed Any Any Any) Told
   is_law = record {
     giving = λ a q. record { tells = λ s. q };
-    stopping = λ n stop is. record { tells = λ s. is };
+    stopping = λ n stop _ is. record { tells = λ s. is };
     going_on = λ {A} {B} {Q} {R = Q2} run go h k. record { tells = λ s. after_tells Q Q2 (run s) go (h.tells s) k };
     seeing = λ go h. record { tells = λ s. (h s.targets s.names s.formals tt tt tt).tells s };
     setting = λ targets names formals _ _ _. record { tells = λ s. tt };

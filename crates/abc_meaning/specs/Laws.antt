@@ -105,6 +105,20 @@ pub record EachIsSame (deep : Deeper) : Type 0 where
 abbrev pub MoreLinesChangeNothing : Type 0
 MoreLinesChangeNothing = (units : List Routine) (levels : ℕ) → EachIsSame (meaning units levels)
 
+-- Where the input ends behind the lines left, no line is wanted that isn't there.
+abbrev pub WantsNone : {A : Type 0} → Run A → Type 0
+WantsNone run = (s : State) → s.ended ≡ true → wants_line (run s) ≡ false
+
+pub record EachWantsNone (deep : Deeper) : Type 0 where
+  pub value : (here : Here) (e : Expr) → WantsNone (deep.value here e)
+  pub actual : (here : Here) (e : Expr) → WantsNone (deep.actual here e)
+  pub holds : (here : Here) (t : Test) → WantsNone (deep.holds here t)
+  pub turn : (here : Here) (t : Test) → WantsNone (deep.turn here t)
+  pub acts : (here : Here) (a : Action) → WantsNone (deep.acts here a)
+
+abbrev pub NoneIsWantedAtTheEnd : Type 0
+NoneIsWantedAtTheEnd = (units : List Routine) (levels : ℕ) → EachWantsNone (meaning units levels)
+
 -- the same of an immediate command
 abbrev pub wants_more : Outcome → Bool
 wants_more (stopped line stop) = is_wanting stop
@@ -116,6 +130,10 @@ CommandIsSameWithMore =
     → wants_more (ran units deepest c targets lines false budget).outcome ≡ false
     → ran units deepest c targets (lines ++ more) ended budget
     ≡ record (ran units deepest c targets lines false budget) { lines = (ran units deepest c targets lines false budget).lines ++ more }
+
+abbrev pub CommandWantsNone : Type 0
+CommandWantsNone =
+    (units : List Routine) (deepest : ℕ) (c : Command) (targets : Targets) (lines : List RawLine) (budget : ℕ) → wants_more (ran units deepest c targets lines true budget).outcome ≡ false
 
 -- the lines of a command: its own, and those of the commands and alternatives in it
 abbrev pub lines_in : Action → List ℕ

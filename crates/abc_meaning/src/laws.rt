@@ -1,6 +1,6 @@
 //! What holds of each part of a run, whatever it runs. All nodes at all depths are spoken of: values, actuals, tests and commands.
 ghost use Rattle.abc_meaning.specs.Regular.{ValuesStayRegular, TargetsStayRegular, InputLinesAreShort};
-ghost use Rattle.abc_meaning.specs.Laws.{StepsNeverRise, OutputGrows, LinesAreTaken, MoreLinesChangeNothing, CommandIsSameWithMore, NamesStayInOrder, OnlyPlacesAreMarked, StopsTellTheirLine, CommandTellsItsLine};
+ghost use Rattle.abc_meaning.specs.Laws.{StepsNeverRise, OutputGrows, LinesAreTaken, MoreLinesChangeNothing, CommandIsSameWithMore, NoneIsWantedAtTheEnd, CommandWantsNone, NamesStayInOrder, OnlyPlacesAreMarked, StopsTellTheirLine, CommandTellsItsLine};
 
 use abc_print::displays_read_back;
 
@@ -24,6 +24,12 @@ pub fn lines_are_taken()
 pub fn more_lines_change_nothing()
     ensures nodes { MoreLinesChangeNothing }
     ensures command { CommandIsSameWithMore }
+{}
+
+/// Where the input ends behind the lines left, no line is wanted: a READ that finds none stops by a fault.
+pub fn none_is_wanted_at_the_end()
+    ensures nodes { NoneIsWantedAtTheEnd }
+    ensures command { CommandWantsNone }
 {}
 
 /// Targets and names stay in order, so that none stands twice.

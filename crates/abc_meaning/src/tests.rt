@@ -1,7 +1,8 @@
 //! That the laws are there to be called.
 use crate::laws::{
-    lines_are_taken, more_lines_change_nothing, names_stay_in_order, only_places_are_marked,
-    output_grows, steps_never_rise, stops_tell_their_line, values_stay_regular,
+    lines_are_taken, more_lines_change_nothing, names_stay_in_order, none_is_wanted_at_the_end,
+    only_places_are_marked, output_grows, steps_never_rise, stops_tell_their_line,
+    values_stay_regular,
 };
 use std::test::Fail;
 
@@ -11,6 +12,7 @@ fn laws_are_called(rt: HostRuntime) -> Result<(), Fail> {
     output_grows();
     lines_are_taken();
     more_lines_change_nothing();
+    none_is_wanted_at_the_end();
     names_stay_in_order();
     only_places_are_marked();
     stops_tell_their_line();

@@ -25,11 +25,12 @@ use Rattle.abc_store.specs.View.{View, work_of}
 use Rattle.abc_outcome.specs.declared.answering.Answer.{Answer}
 use Rattle.abc_outcome.specs.declared.answering.AnswerFault.{AnswerFault}
 use Rattle.abc_outcome.specs.declared.answering.AnswerFault.TheVariants.{StoreFault, Memory}
+use Rattle.abc_num.specs.declared.lines.RawLine.{RawLine}
 use Rattle.abc_outcome.specs.Reply.{ended, fault_line, said}
 use Rattle.abc_outcome.specs.Spelled.{are_spelled_lines, has_spelling}
-use Rattle.abc_outcome.specs.Reading.{unit_reads}
-use Rattle.abc_outcome.specs.Outcome.{Outcome, Ending, ends_with, not_yet_line, on_stored, kept_outcome, accepted, accepted_line, unit_outcome, stored_if_spelled}
-use Rattle.abc_outcome.specs.Answers.{Answers, OpensToWork, told}
+use Rattle.abc_outcome.specs.Outcome.{Behind, Ending, ends_with, on_stored, kept_outcome, accepted, accepted_line, unit_outcome, stored_if_spelled}
+use Rattle.abc_outcome.specs.Answers.{OpensToWork, told, work_in}
+use Rattle.abc_outcome.specs.inner.Settling.{Settles}
 use Rattle.abc_outcome.specs.inner.Steps.{Closes}
 use Rattle.abc_outcome.proofs.Finding.{and_both}
 
@@ -39,7 +40,7 @@ pub kept_is : (bounds : Bounds) (k : ℕ) (work : Work) (ending : Ending) (targe
     → kept_outcome bounds k work ending targets
     ≡ on_stored k work ending (stored_if_spelled bounds work (changes_between work.kept (with_targets work.kept targets)) (with_targets work.kept targets))
 kept_is bounds k work ending targets few =
-    ap (λ b. cond b (ends_with work ending.output (fault_line k 1 (codes "TooManyTargets"))) (on_stored k work ending (stored_if_spelled bounds work (changes_between work.kept (with_targets work.kept targets)) (with_targets work.kept targets)))) few
+    ap (λ b. cond b (ends_with work ending.left ending.output (fault_line k 1 (codes "TooManyTargets"))) (on_stored k work ending (stored_if_spelled bounds work (changes_between work.kept (with_targets work.kept targets)) (with_targets work.kept targets)))) few
 
 pub spelled_is : (bounds : Bounds) (work : Work) (cs : List Change) (later : Workspace) → list_all has_spelling cs ≡ true → stored_if_spelled bounds work cs later ≡ stored bounds work cs later
 spelled_is bounds work cs later spelled = ap (λ b. cond b (stored bounds work cs later) (Err (too_large 0))) spelled
@@ -50,27 +51,26 @@ unspelled_is bounds work cs later not = ap (λ b. cond b (stored bounds work cs 
 -- a command's changes of targets, where their names can be spelled
 pub kept_targets : (bounds : Bounds) (k : ℕ) (work : Work) (ending : Ending) (targets : Targets) (cs : List Change) (line : List ℕ)
     → cs ≡ changes_between work.kept (with_targets work.kept targets) → length targets ≤ MOST_TARGETS → list_all has_spelling cs ≡ true → line ≡ ending.line
-    → on_stored k work (record { output = ending.output; line = line; quits = ending.quits }) (stored bounds work cs (with_targets work.kept targets)) ≡ kept_outcome bounds k work ending targets
+    → on_stored k work (record { output = ending.output; left = ending.left; line = line; quits = ending.quits }) (stored bounds work cs (with_targets work.kept targets)) ≡ kept_outcome bounds k work ending targets
 kept_targets bounds k work ending targets cs line changes few spelled is =
     let later = with_targets work.kept targets in
-    ap (λ (l : List ℕ). on_stored k work (record { output = ending.output; line = l; quits = ending.quits }) (stored bounds work cs later)) is
+    ap (λ (l : List ℕ). on_stored k work (record { output = ending.output; left = ending.left; line = l; quits = ending.quits }) (stored bounds work cs later)) is
     ∙ ap (on_stored k work ending) (sym (spelled_is bounds work cs later spelled))
     ∙ ap (λ (cs : List Change). on_stored k work ending (stored_if_spelled bounds work cs later)) changes
     ∙ sym (kept_is bounds k work ending targets (lt-leb (suc MOST_TARGETS) (length targets) (omega (arith, few))))
 
 -- a unit, where its lines can be spelled
-pub unit_kept : (bounds : Bounds) (k : ℕ) (work : Work) (u : Routine) (cs : List Change) (line : List ℕ)
-    → unit_reads u ≡ false → length (with_routine work.kept u).units ≤ MOST_UNITS → are_spelled_lines u.lines ≡ true → line ≡ accepted_line k u (with_routine work.kept u).units → cs ≡ SetUnit u.lines ∷ []
-    → on_stored k work (record { output = []; line = line; quits = false }) (stored bounds work cs (with_routine work.kept u)) ≡ unit_outcome bounds k work u
-unit_kept bounds k work u cs line reads few spelled is changes =
+pub unit_kept : (bounds : Bounds) (k : ℕ) (work : Work) (behind : Behind) (u : Routine) (cs : List Change) (line : List ℕ)
+    → length (with_routine work.kept u).units ≤ MOST_UNITS → are_spelled_lines u.lines ≡ true → line ≡ accepted_line k u (with_routine work.kept u).units → cs ≡ SetUnit u.lines ∷ []
+    → on_stored k work (record { output = []; left = behind.lines; line = line; quits = false }) (stored bounds work cs (with_routine work.kept u)) ≡ unit_outcome bounds k work behind u
+unit_kept bounds k work behind u cs line few spelled is changes =
     let later = with_routine work.kept u in
-    let ending = accepted k u later.units in
+    let ending = accepted k behind.lines u later.units in
     let whole = on_stored k work ending (stored_if_spelled bounds work (SetUnit u.lines ∷ []) later) in
-    ap (λ (l : List ℕ). on_stored k work (record { output = []; line = l; quits = false }) (stored bounds work cs later)) is
+    ap (λ (l : List ℕ). on_stored k work (record { output = []; left = behind.lines; line = l; quits = false }) (stored bounds work cs later)) is
     ∙ ap (λ (cs : List Change). on_stored k work ending (stored bounds work cs later)) changes
     ∙ ap (on_stored k work ending) (sym (spelled_is bounds work (SetUnit u.lines ∷ []) later (and_both (are_spelled_lines u.lines) true spelled refl)))
-    ∙ sym (ap (λ b. cond b (ends_with work [] (fault_line k 1 (codes "TooManyUnits"))) whole) (lt-leb (suc MOST_UNITS) (length later.units) (omega (arith, few))))
-    ∙ sym (ap (λ b. cond b (ends_with work [] (not_yet_line k)) (cond (nat_lt MOST_UNITS (length later.units)) (ends_with work [] (fault_line k 1 (codes "TooManyUnits"))) whole)) reads)
+    ∙ sym (ap (λ b. cond b (ends_with work behind.lines [] (fault_line k 1 (codes "TooManyUnits"))) whole) (lt-leb (suc MOST_UNITS) (length later.units) (omega (arith, few))))
 
 -- ---- what is stored
 
@@ -115,7 +115,7 @@ module _ {H : Type 0} (tells_image : Type 0) (now : H → Outside) (clock : H �
       → changed_by cs before.kept ≡ Some later → stored before.bounds (work_of before) cs later ≡ found
       → Leaves clock stopped old new (OpensToEither before.kept later (now old).said)
       → ((refusal : Refusal) → stored before.bounds (work_of before) cs later ≡ Err refusal → Leaves clock stopped old new (StillOpens before.kept (now old).said))
-      → Leaves clock stopped old new (IsInCommit OpensToWork (work_of before) (on_stored k (work_of before) ending found).work (now old).said)
+      → Leaves clock stopped old new (IsInCommit OpensToWork (work_of before) (work_in (work_of before) (on_stored k (work_of before) ending found)) (now old).said)
   commit_stops before old new cs later (Ok work) k ending lead is either never =
       weaken clock stopped old new _ _ either (λ c s p. record {
         nothing_said = p.0;
@@ -131,18 +131,20 @@ module _ {H : Type 0} (tells_image : Type 0) (now : H → Outside) (clock : H �
   pub kept_answers : {T : Type 0} (before after : View) (old new : H) (found : Result Work Refusal) (r : Result T CommitFault) (result : Result Answer AnswerFault) (k : ℕ) (ending : Ending) (written kept full large : List ℕ)
       → Commits before after old new found r → Closes written kept full large ending.quits r result
       → written ≡ ended ending.output → kept ≡ ending.line → full ≡ fault_line k 1 (codes "StoreFull") → large ≡ fault_line k 1 (codes "TooLarge")
-      → (tells_image → IsQuiet clock stopped old (now old).image → Leaves clock stopped old new (IsInCommit OpensToWork (work_of before) (on_stored k (work_of before) ending found).work (now old).said))
-      → Answers tells_image now clock stopped before after old new result (on_stored k (work_of before) ending found)
+      → (tells_image → IsQuiet clock stopped old (now old).image → Leaves clock stopped old new (IsInCommit OpensToWork (work_of before) (work_in (work_of before) (on_stored k (work_of before) ending found)) (now old).said))
+      → Settles tells_image now clock stopped before after old new result ending.left (on_stored k (work_of before) ending found)
   kept_answers before after old new found (Ok x) result k ending written kept full large c closes w o f l stops =
       let out = on_stored k (work_of before) ending in
-      subst (λ (a : Result Answer AnswerFault). Answers tells_image now clock stopped before after old new a (out found)) (sym closes) (record {
-        outcome = ap out c.answer ∙ sym (ap (λ bytes. told (record { reply = bytes; quit = ending.quits }) (work_of after)) (ap (λ bytes. bytes ++ kept) w ∙ ap (λ line. said ending.output line) o));
+      subst (λ (a : Result Answer AnswerFault). Settles tells_image now clock stopped before after old new a ending.left (out found)) (sym closes) (record {
+        outcome = ap out c.answer ∙ sym (ap (λ bytes. told (record { reply = bytes; quit = ending.quits }) (work_of after) ending.left) (ap (λ bytes. bytes ++ kept) w ∙ ap (λ line. said ending.output line) o));
         holds = λ told. c.holds told tt;
         sound = c.sound tt;
         faultless = c.faultless tt;
         fault = λ e. absurd cc;
         unsound = λ e. absurd cc;
         memory = λ e. absurd cc;
+        not_input = λ e. absurd cc;
+        not_long = λ e. absurd cc;
         same = λ e. absurd cc;
         bounds = c.bounds;
         rest = c.rest;
@@ -151,7 +153,7 @@ module _ {H : Type 0} (tells_image : Type 0) (now : H → Outside) (clock : H �
       })
   kept_answers before after old new found (Err commit.StoreFault) result k ending written kept full large c closes w o f l stops =
       let out = on_stored k (work_of before) ending in
-      subst (λ (a : Result Answer AnswerFault). Answers tells_image now clock stopped before after old new a (out found)) (sym closes) (record {
+      subst (λ (a : Result Answer AnswerFault). Settles tells_image now clock stopped before after old new a ending.left (out found)) (sym closes) (record {
         outcome = tt;
         holds = λ told. tt;
         sound = tt;
@@ -159,6 +161,8 @@ module _ {H : Type 0} (tells_image : Type 0) (now : H → Outside) (clock : H �
         fault = λ e. c.fault refl;
         unsound = λ e. c.unsound refl;
         memory = λ e. absurd cc;
+        not_input = λ e. absurd cc;
+        not_long = λ e. absurd cc;
         same = λ e. absurd cc;
         bounds = c.bounds;
         rest = c.rest;
@@ -167,7 +171,7 @@ module _ {H : Type 0} (tells_image : Type 0) (now : H → Outside) (clock : H �
       })
   kept_answers before after old new found (Err commit.Memory) result k ending written kept full large c closes w o f l stops =
       let out = on_stored k (work_of before) ending in
-      subst (λ (a : Result Answer AnswerFault). Answers tells_image now clock stopped before after old new a (out found)) (sym closes) (record {
+      subst (λ (a : Result Answer AnswerFault). Settles tells_image now clock stopped before after old new a ending.left (out found)) (sym closes) (record {
         outcome = tt;
         holds = λ told. tt;
         sound = tt;
@@ -175,6 +179,8 @@ module _ {H : Type 0} (tells_image : Type 0) (now : H → Outside) (clock : H �
         fault = λ e. absurd cc;
         unsound = λ e. absurd cc;
         memory = λ e. c.same_host (inl refl);
+        not_input = λ e. absurd cc;
+        not_long = λ e. absurd cc;
         same = λ e. c.same (inl refl);
         bounds = c.bounds;
         rest = c.rest;
@@ -185,15 +191,17 @@ module _ {H : Type 0} (tells_image : Type 0) (now : H → Outside) (clock : H �
       let out = on_stored k (work_of before) ending in
       let is = c.answer.1 in
       let there : work_of after ≡ work_after (work_of before) (Err (too_large c.answer.0)) = c.work tt ∙ ap (work_after (work_of before)) is in
-      subst (λ (a : Result Answer AnswerFault). Answers tells_image now clock stopped before after old new a (out found)) (sym closes) (record {
-        outcome = ap out is ∙ ap (λ (work : Work). told (record { reply = said ending.output (fault_line k 1 (codes "TooLarge")); quit = false }) work) (sym there)
-            ∙ sym (ap (λ bytes. told (record { reply = bytes; quit = false }) (work_of after)) (ap (λ bytes. bytes ++ large) w ∙ ap (λ line. said ending.output line) l));
+      subst (λ (a : Result Answer AnswerFault). Settles tells_image now clock stopped before after old new a ending.left (out found)) (sym closes) (record {
+        outcome = ap out is ∙ ap (λ (work : Work). told (record { reply = said ending.output (fault_line k 1 (codes "TooLarge")); quit = false }) work ending.left) (sym there)
+            ∙ sym (ap (λ bytes. told (record { reply = bytes; quit = false }) (work_of after) ending.left) (ap (λ bytes. bytes ++ large) w ∙ ap (λ line. said ending.output line) l));
         holds = λ told. c.holds told tt;
         sound = c.sound tt;
         faultless = c.faultless tt;
         fault = λ e. absurd cc;
         unsound = λ e. absurd cc;
         memory = λ e. absurd cc;
+        not_input = λ e. absurd cc;
+        not_long = λ e. absurd cc;
         same = λ e. absurd cc;
         bounds = c.bounds;
         rest = c.rest;
@@ -204,15 +212,17 @@ module _ {H : Type 0} (tells_image : Type 0) (now : H → Outside) (clock : H �
       let out = on_stored k (work_of before) ending in
       let is = c.answer.1 in
       let there : work_of after ≡ work_after (work_of before) (Err (store_full c.answer.0)) = c.work tt ∙ ap (work_after (work_of before)) is in
-      subst (λ (a : Result Answer AnswerFault). Answers tells_image now clock stopped before after old new a (out found)) (sym closes) (record {
-        outcome = ap out is ∙ ap (λ (work : Work). told (record { reply = said ending.output (fault_line k 1 (codes "StoreFull")); quit = false }) work) (sym there)
-            ∙ sym (ap (λ bytes. told (record { reply = bytes; quit = false }) (work_of after)) (ap (λ bytes. bytes ++ full) w ∙ ap (λ line. said ending.output line) f));
+      subst (λ (a : Result Answer AnswerFault). Settles tells_image now clock stopped before after old new a ending.left (out found)) (sym closes) (record {
+        outcome = ap out is ∙ ap (λ (work : Work). told (record { reply = said ending.output (fault_line k 1 (codes "StoreFull")); quit = false }) work ending.left) (sym there)
+            ∙ sym (ap (λ bytes. told (record { reply = bytes; quit = false }) (work_of after) ending.left) (ap (λ bytes. bytes ++ full) w ∙ ap (λ line. said ending.output line) f));
         holds = λ told. c.holds told tt;
         sound = c.sound tt;
         faultless = c.faultless tt;
         fault = λ e. absurd cc;
         unsound = λ e. absurd cc;
         memory = λ e. absurd cc;
+        not_input = λ e. absurd cc;
+        not_long = λ e. absurd cc;
         same = λ e. absurd cc;
         bounds = c.bounds;
         rest = c.rest;

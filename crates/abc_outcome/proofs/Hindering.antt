@@ -1,15 +1,19 @@
 -- What keeps a command from running.
-use Rattle.std.proofs.Common.{◌≡◌, ℕ, true, false, cond, List, Option, Some, ap, ◌∙◌}
+use Rattle.std.proofs.Common.{◌≡◌, ℕ, List, [], Option, None, Some, Ok, refl, sym, ap, ◌∙◌}
 use Rattle.abc_tree.specs.declared.commands.Command.{Command}
 use Rattle.abc_tree.specs.declared.commands.Unit.{Unit as Routine}
-use Rattle.abc_outcome.specs.Missing.{called_by, first_missing, line_to}
-use Rattle.abc_outcome.specs.Outcome.{hindrance, if_missing, not_yet_line}
-use Rattle.abc_outcome.specs.Reading.{command_reads}
+use Rattle.abc_outcome.specs.declared.answering.Answer.{Answer}
+use Rattle.abc_outcome.specs.Missing.{line_to}
 use Rattle.abc_outcome.specs.Reply.{missing_line}
+use Rattle.abc_outcome.specs.inner.Steps.{IsHindered, if_missing, refusing}
 
-pub it_reads : (units : List Routine) (k : ℕ) (c : Command) → command_reads units c ≡ true → hindrance units k c ≡ Some (not_yet_line k)
-it_reads units k c reads = ap (λ b. cond b (Some (not_yet_line k)) (if_missing units k c (first_missing units (called_by c)))) reads
+-- nothing does
+pub none_missing : (units : List Routine) (k : ℕ) (c : Command) (missing : Option (List ℕ)) → IsHindered (if_missing units k c missing) (Ok None) → missing ≡ None
+none_missing units k c None is = refl
+none_missing units k c (Some t) is = absurd is
 
-pub it_misses : (units : List Routine) (k : ℕ) (c : Command) (t : List ℕ) → command_reads units c ≡ false → first_missing units (called_by c) ≡ Some t → hindrance units k c ≡ Some (missing_line k (line_to units t c) t)
-it_misses units k c t reads first =
-    ap (λ b. cond b (Some (not_yet_line k)) (if_missing units k c (first_missing units (called_by c)))) reads ∙ ap (if_missing units k c) first
+-- a missing unit does
+pub some_missing : (units : List Routine) (k : ℕ) (c : Command) (missing : Option (List ℕ)) (answer : Answer) → IsHindered (if_missing units k c missing) (Ok (Some answer))
+    → (t : List ℕ) × (missing ≡ Some t) × (answer ≡ refusing (missing_line k (line_to units t c) t))
+some_missing units k c None answer is = absurd is
+some_missing units k c (Some t) answer is = (t, refl, is)

@@ -7,8 +7,11 @@ mod Ends
 mod Stays
 mod Named
 mod Commits
-mod Shapes
-mod ReadsIn
-mod ReachedReads
-mod Hindering
+pub mod Shapes
+pub mod Steady
+mod Suffixes
+mod Lifted
+mod Taking
+mod Runs
 mod Items
+mod Hindering

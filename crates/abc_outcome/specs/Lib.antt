@@ -1,7 +1,6 @@
 -- What comes of an item.
 pub mod Names
 pub mod Reply
-pub mod Reading
 pub mod Missing
 pub mod Spelled
 pub mod Outcome

@@ -1,4 +1,5 @@
 -- Steps of the code, in words that no public clause uses.
 pub mod Lines
-pub mod Reads
+pub mod Running
+pub mod Settling
 pub mod Steps

@@ -1,32 +1,33 @@
 //! The answer to a command.
-ghost use Rattle.std.specs.Prelude.{◌≡◌, ℕ, List, Some, IfOk, IfErr, IsTrue};
+ghost use Rattle.std.specs.Prelude.{◌≡◌, ℕ, List, Some, true, [], IsTrue};
+ghost use Rattle.abc_num.specs.declared.lines.RawLine.{RawLine};
 ghost use Rattle.abc_machine.specs.Outcomes.{outcome_of};
-ghost use Rattle.abc_tree.specs.Units.{AreRising};
+ghost use Rattle.abc_reader.specs.Reading.{IsReader};
 ghost use Rattle.abc_store.specs.Commit.{Holds};
 ghost use Rattle.abc_store.specs.View.{work_of};
-ghost use Rattle.abc_outcome.specs.Outcome.{command_outcome, hindrance, on_end, run_of, run_outcome};
-ghost use Rattle.abc_outcome.specs.Reading.{command_reads};
+ghost use Rattle.abc_outcome.specs.Outcome.{command_outcome, on_end, run_of, run_outcome};
 ghost use Rattle.abc_outcome.specs.Answers.{Answers};
-ghost use Rattle.abc_outcome.specs.inner.Steps.{IsHindered, Refuses};
+ghost use Rattle.abc_outcome.specs.inner.Running.{Runs};
+ghost use Rattle.abc_outcome.specs.inner.Settling.{Settles};
+ghost use Rattle.abc_outcome.specs.inner.Steps.{IsHindered, Refuses, fault_of as broken_off, hindrance};
 
 use crate::keeping::keep_targets;
 use crate::missing::missing_of;
 use crate::names::run_fault_name;
-use crate::no_lines::NoLines;
-use crate::reading::{reads_input, some_reached_reads};
-use crate::replies::{missing, not_yet, refusal};
+use crate::replies::{missing, refusal};
 use crate::{Answer, AnswerFault};
 use abc_eval::{Outcome, Ran, RunStop, run_item};
 use abc_frames::Targets;
 use abc_num::OutOfMemory;
 use abc_outside::Host;
+use abc_reader::{Reader, ReaderLines};
 use abc_store::Store;
-use abc_tree::{Command, Units, command_calls};
+use abc_tree::{Command, Units};
 use std::alloc::Global;
 
 /// What a command leaves: how it ended, the targets then, and what it wrote.
 #[derive(Drop)]
-struct Left {
+pub(crate) struct Left {
     end: Outcome,
     targets: Targets,
     output: Vec<u8>,
@@ -42,8 +43,8 @@ fn answer_left<H: Host>(
 ) -> Result<Answer, AnswerFault>
     requires sound { IsTrue store.old.sound }
     requires holds { H.tells_image → Holds (H.now host.old).image (work_of store.old) }
-    ensures { Answers H.tells_image H.now H.clock H.stopped store.old store.new host.old host.new result
-        (on_end store.old.bounds k (work_of store.old) left.output.items left.targets (outcome_of left.end)) }
+    ensures { (lines : List RawLine) → Settles H.tells_image H.now H.clock H.stopped store.old store.new host.old host.new result lines
+        (on_end store.old.bounds k (work_of store.old) lines left.output.items left.targets (outcome_of left.end)) }
 {
     let Left {
         end,
@@ -58,25 +59,38 @@ fn answer_left<H: Host>(
     }
 }
 
-/// Runs a command over the units, and over targets of its own.
-fn run(alloc: Global, store: &Store, command: &Command, steps: u64) -> Result<Left, AnswerFault>
-    ensures end { IfOk result (λ left. (run_of steps store.now.kept command.now).outcome ≡ outcome_of left.end) }
-    ensures targets { IfOk result (λ left. (run_of steps store.now.kept command.now).targets ≡ left.targets) }
-    ensures output { IfOk result (λ left. (run_of steps store.now.kept command.now).output ≡ left.output.items) }
-    ensures memory { IfErr result (λ fault. fault ≡ AnswerFault.Memory) }
+/// Why a command is not answered whose run was broken off.
+fn fault_of(stop: RunStop) -> AnswerFault
+    ensures { result ≡ broken_off stop }
+{
+    match stop {
+        RunStop::Input => AnswerFault::Input,
+        RunStop::Long => AnswerFault::Long,
+        RunStop::Memory => AnswerFault::Memory,
+    }
+}
+
+/// Runs a command over the units, over targets of its own, and over the lines of a reader.
+fn run_over<H: Host>(
+    alloc: Global,
+    store: &Store,
+    lines: &mut ReaderLines<'_, H>,
+    command: &Command,
+    steps: u64,
+) -> Result<Left, AnswerFault>
+    requires is_reader { IsReader lines.old.reader.now }
+    ensures same_reader { lines.new.reader.ghost_name ≡ lines.old.reader.ghost_name }
+    ensures same_host { lines.new.host.ghost_name ≡ lines.old.host.ghost_name }
+    ensures runs { Runs H.tells_input H.tells_said H.now H.clock H.stopped lines.old.reader.now lines.new.reader.now lines.old.host.now lines.new.host.now result
+        (λ behind. run_of steps store.now.kept behind command.now) }
 {
     let mut targets = match store.working() {
         Ok(targets) => targets,
         Err(OutOfMemory) => return Err(AnswerFault::Memory),
     };
-    match run_item(
-        alloc,
-        command,
-        store.units(),
-        &mut targets,
-        &mut NoLines,
-        steps,
-    ) {
+    let ran = run_item(alloc, command, store.units(), &mut targets, lines, steps);
+    lines.reader.is_reader();
+    match ran {
         Ok(
             Ran {
                 outcome,
@@ -88,9 +102,27 @@ fn run(alloc: Global, store: &Store, command: &Command, steps: u64) -> Result<Le
             targets,
             output: output.into_vec(),
         }),
-        Err(RunStop::Memory) => Err(AnswerFault::Memory),
-        Err(RunStop::Input) | Err(RunStop::Long) => unreachable!(),
+        Err(stop) => Err(fault_of(stop)),
     }
+}
+
+/// Runs a command, which may take lines that stand behind it.
+fn run<H: Host>(
+    alloc: Global,
+    store: &Store,
+    host: &mut H,
+    reader: &mut Reader,
+    command: &Command,
+    steps: u64,
+) -> Result<Left, AnswerFault>
+    requires same_count { (H.now host.old).taken ≡ reader.old.taken }
+    requires at_end { H.tells_input → reader.old.ended ≡ true → (H.now host.old).left ≡ [] }
+    requires is_reader { IsReader reader.old }
+    ensures { Runs H.tells_input H.tells_said H.now H.clock H.stopped reader.old reader.new host.old host.new result
+        (λ behind. run_of steps store.now.kept behind command.now) }
+{
+    let mut lines = ReaderLines { reader, host };
+    run_over(alloc, store, &mut lines, command, steps)
 }
 
 /// Runs a command, and answers it.
@@ -98,16 +130,20 @@ fn answer_run<H: Host>(
     alloc: Global,
     store: &mut Store,
     host: &mut H,
+    reader: &mut Reader,
     command: &Command,
     k: u64,
     steps: u64,
 ) -> Result<Answer, AnswerFault>
     requires sound { IsTrue store.old.sound }
     requires holds { H.tells_image → Holds (H.now host.old).image (work_of store.old) }
-    ensures { Answers H.tells_image H.now H.clock H.stopped store.old store.new host.old host.new result
-        (run_outcome store.old.bounds steps k (work_of store.old) command.now) }
+    requires same_count { (H.now host.old).taken ≡ reader.old.taken }
+    requires at_end { H.tells_input → reader.old.ended ≡ true → (H.now host.old).left ≡ [] }
+    requires is_reader { IsReader reader.old }
+    ensures { Answers H.tells_image H.tells_input H.tells_said H.now H.clock H.stopped store.old store.new reader.old reader.new host.old host.new result
+        (λ behind. run_outcome store.old.bounds steps k (work_of store.old) behind command.now) }
 {
-    match run(alloc, store, command, steps) {
+    match run(alloc, store, host, reader, command, steps) {
         Ok(left) => answer_left(alloc, store, host, left, k),
         Err(fault) => Err(fault),
     }
@@ -123,33 +159,15 @@ fn one(answer: Result<Answer, AnswerFault>) -> Result<Option<Answer>, AnswerFaul
     }
 }
 
-/// Whether a command takes lines of the input, or a unit does that it reaches.
-fn command_reads(alloc: Global, units: &Units, command: &Command) -> Result<bool, OutOfMemory>
-    requires { AreRising units.now }
-    ensures { IfOk result (λ is. is ≡ command_reads units.now command.now) }
-{
-    if reads_input(&command.action) {
-        return Ok(true);
-    }
-    let calls = command_calls(alloc, command, u32::MAX)?;
-    some_reached_reads(alloc, units, &calls)
-}
-
-/// What keeps a command from running, as the answer: it takes lines, or reaches a missing unit.
+/// What keeps a command from running, as the answer: it reaches a missing unit.
 fn hindered(
     alloc: Global,
     units: &Units,
     command: &Command,
     k: u64,
 ) -> Result<Option<Answer>, AnswerFault>
-    requires { AreRising units.now }
     ensures { IsHindered (hindrance units.now k command.now) result }
 {
-    match command_reads(alloc, units, command) {
-        Ok(true) => return one(not_yet(alloc, k)),
-        Ok(false) => {}
-        Err(OutOfMemory) => return Err(AnswerFault::Memory),
-    }
     match missing_of(alloc, units, command) {
         Ok(None) => Ok(None),
         Ok(Some(unit)) => one(missing(alloc, k, unit.line, unit.template.bytes())),
@@ -162,17 +180,21 @@ pub(crate) fn answer_command<H: Host>(
     alloc: Global,
     store: &mut Store,
     host: &mut H,
+    reader: &mut Reader,
     command: &Command,
     k: u64,
     steps: u64,
 ) -> Result<Answer, AnswerFault>
     requires sound { IsTrue store.old.sound }
     requires holds { H.tells_image → Holds (H.now host.old).image (work_of store.old) }
-    ensures { Answers H.tells_image H.now H.clock H.stopped store.old store.new host.old host.new result
-        (command_outcome store.old.bounds steps k (work_of store.old) command.now) }
+    requires same_count { (H.now host.old).taken ≡ reader.old.taken }
+    requires at_end { H.tells_input → reader.old.ended ≡ true → (H.now host.old).left ≡ [] }
+    requires is_reader { IsReader reader.old }
+    ensures { Answers H.tells_image H.tells_input H.tells_said H.now H.clock H.stopped store.old store.new reader.old reader.new host.old host.new result
+        (λ behind. command_outcome store.old.bounds steps k (work_of store.old) behind command.now) }
 {
     match hindered(alloc, store.units(), command, k) {
-        Ok(None) => answer_run(alloc, store, host, command, k, steps),
+        Ok(None) => answer_run(alloc, store, host, reader, command, k, steps),
         Ok(Some(answer)) => Ok(answer),
         Err(fault) => Err(fault),
     }

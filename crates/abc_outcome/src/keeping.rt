@@ -1,12 +1,13 @@
 //! What an item changed, kept in the store.
-ghost use Rattle.std.specs.Prelude.{◌≡◌, ◌≤◌, ◌+◌, ◌++◌, length, IsTrue, IfOk, Some, vec_len, vec_capacity, codes};
+ghost use Rattle.std.specs.Prelude.{◌≡◌, ◌≤◌, ◌+◌, ◌++◌, List, length, IsTrue, IfOk, Some, vec_len, vec_capacity, codes};
+ghost use Rattle.abc_num.specs.declared.lines.RawLine.{RawLine};
 ghost use Rattle.abc_record.specs.Kept.{AreKept};
 ghost use Rattle.abc_store.specs.Commit.{Holds, stored};
 ghost use Rattle.abc_store.specs.View.{work_of};
 ghost use Rattle.abc_store.specs.Workspace.{Workspace, changed_by, IsWithinLimits};
 ghost use Rattle.abc_outcome.specs.Outcome.{kept_outcome, on_stored};
 ghost use Rattle.abc_outcome.specs.Reply.{ended as ended_in, fault_line as faulty, ok_line as ok};
-ghost use Rattle.abc_outcome.specs.Answers.{Answers};
+ghost use Rattle.abc_outcome.specs.inner.Settling.{Settles};
 ghost use Rattle.abc_outcome.specs.inner.Steps.{Closes};
 
 use crate::replies::{ended, fault_line, ok_line, refusal};
@@ -107,9 +108,9 @@ pub(crate) fn keep<H: Host>(
     requires holds { H.tells_image → Holds (H.now host.old).image (work_of store.old) }
     requires later { (later : Workspace) × (changed_by changes.items store.old.kept ≡ Some later) × IsWithinLimits later }
     requires kept { AreKept changes.items }
-    ensures { (later : Workspace) → changed_by changes.items store.old.kept ≡ Some later
-        → Answers H.tells_image H.now H.clock H.stopped store.old store.new host.old host.new result
-        (on_stored k (work_of store.old) (record { output = ending.output.items; line = ending.line.items; quits = ending.quit })
+    ensures { (later : Workspace) (left : List RawLine) → changed_by changes.items store.old.kept ≡ Some later
+        → Settles H.tells_image H.now H.clock H.stopped store.old store.new host.old host.new result left
+        (on_stored k (work_of store.old) (record { output = ending.output.items; left = left; line = ending.line.items; quits = ending.quit })
         (stored store.old.bounds (work_of store.old) changes.items later)) }
 {
     let Ending { output, line, quit } = ending;
@@ -133,8 +134,8 @@ pub(crate) fn keep_targets<H: Host>(
 ) -> Result<Answer, AnswerFault>
     requires sound { IsTrue store.old.sound }
     requires holds { H.tells_image → Holds (H.now host.old).image (work_of store.old) }
-    ensures { Answers H.tells_image H.now H.clock H.stopped store.old store.new host.old host.new result
-        (kept_outcome store.old.bounds k (work_of store.old) (record { output = output.items; line = ok k; quits = quit }) targets.now) }
+    ensures { (left : List RawLine) → Settles H.tells_image H.now H.clock H.stopped store.old store.new host.old host.new result left
+        (kept_outcome store.old.bounds k (work_of store.old) (record { output = output.items; left = left; line = ok k; quits = quit }) targets.now) }
 {
     let _there = store.targets();
     if targets.len() > MOST_TARGETS {

@@ -1,5 +1,13 @@
 //! What holds of what comes of items.
-ghost use Rattle.abc_outcome.specs.Laws.{NoReplyIsEmpty, RefusalsChangeNothing, LeastIsMissing, NoneIsLeft};
+ghost use Rattle.abc_outcome.specs.Laws.{CameStays, ComesAtEnd, LeavesNoMore, NoReplyIsEmpty, RefusalsChangeNothing, LeastIsMissing, NoneIsLeft};
+
+/// What an item comes to over some lines stays so whatever lines follow; it leaves no more lines than there were; and none is wanted at
+/// the end of the input.
+pub fn outcomes_are_steady()
+    ensures came_stays { CameStays }
+    ensures no_longer { LeavesNoMore }
+    ensures came_at_end { ComesAtEnd }
+{}
 
 /// No reply is empty.
 pub fn no_reply_is_empty()

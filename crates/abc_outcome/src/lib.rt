@@ -3,15 +3,17 @@
 
 mod answering;
 mod commands;
+mod inquiries;
 mod keeping;
 mod laws;
 mod missing;
 mod names;
-mod no_lines;
-mod reading;
 mod replies;
 mod spelled;
 mod units;
 
 pub use answering::{Answer, AnswerFault, answer_item};
-pub use laws::{missing_is_least, no_reply_is_empty, refusals_change_nothing};
+pub use laws::{missing_is_least, no_reply_is_empty, outcomes_are_steady, refusals_change_nothing};
+
+#[cfg(test)]
+mod tests;

@@ -1,7 +1,6 @@
 //! Replies.
 ghost use Rattle.std.specs.Prelude.{◌≡◌, ℕ, List, None, Some, IfOk};
 ghost use Rattle.abc_outcome.specs.Reply.{ended, fault_line, is_unended, missing_line, ok_line, said, unit_line};
-ghost use Rattle.abc_outcome.specs.Outcome.{not_yet_line};
 ghost use Rattle.abc_outcome.specs.inner.Steps.{Refuses};
 
 use crate::{Answer, AnswerFault};
@@ -97,8 +96,8 @@ fn missing_reply(alloc: Global, k: u64, n: u32, template: &[u8]) -> Result<Vec<u
     Ok(reply)
 }
 
-/// The answer that is this reply, in which an item is refused.
-fn refused(reply: Result<Vec<u8>, OutOfMemory>) -> Result<Answer, AnswerFault>
+/// The answer that is this reply, to an item that changes nothing.
+fn answered(reply: Result<Vec<u8>, OutOfMemory>) -> Result<Answer, AnswerFault>
     ensures { (said : List ℕ) → IfOk reply (λ reply. reply.items ≡ said) → Refuses said result }
 {
     match reply {
@@ -120,19 +119,29 @@ pub(crate) fn refusal(
 ) -> Result<Answer, AnswerFault>
     ensures { Refuses (said output.items (fault_line k n name.now)) result }
 {
-    refused(fault_reply(alloc, k, output, n, name))
-}
-
-/// Refuses item k, which is not served yet.
-pub(crate) fn not_yet(alloc: Global, k: u64) -> Result<Answer, AnswerFault>
-    ensures { Refuses (not_yet_line k) result }
-{
-    refusal(alloc, k, Vec::new(alloc), 1, "NotYet")
+    answered(fault_reply(alloc, k, output, n, name))
 }
 
 /// Refuses item k, since the unit with this template is missing.
 pub(crate) fn missing(alloc: Global, k: u64, n: u32, template: &[u8]) -> Result<Answer, AnswerFault>
     ensures { Refuses (missing_line k n template.now) result }
 {
-    refused(missing_reply(alloc, k, n, template))
+    answered(missing_reply(alloc, k, n, template))
+}
+
+/// The reply in which item k says that it was served, behind what it shows.
+fn shown_reply(alloc: Global, k: u64, output: Vec<u8>) -> Result<Vec<u8>, OutOfMemory>
+    ensures { IfOk result (λ reply. reply.items ≡ said output.items (ok_line k)) }
+{
+    let mut reply = ended(output)?;
+    let line = ok_line(alloc, k)?;
+    reply.extend_from_slice(&line)?;
+    Ok(reply)
+}
+
+/// Answers item k, which shows this and keeps nothing.
+pub(crate) fn showing(alloc: Global, k: u64, output: Vec<u8>) -> Result<Answer, AnswerFault>
+    ensures { Refuses (said output.items (ok_line k)) result }
+{
+    answered(shown_reply(alloc, k, output))
 }

@@ -5,12 +5,11 @@ ghost use Rattle.abc_store.specs.Commit.{Holds};
 ghost use Rattle.abc_store.specs.View.{work_of};
 ghost use Rattle.abc_store.specs.Workspace.{unit_of_lines};
 ghost use Rattle.abc_tree.specs.Units.{with_unit};
-ghost use Rattle.abc_outcome.specs.Outcome.{accepted_line, unit_outcome};
-ghost use Rattle.abc_outcome.specs.Answers.{Answers};
+ghost use Rattle.abc_outcome.specs.Outcome.{Behind, accepted_line, unit_outcome};
+ghost use Rattle.abc_outcome.specs.inner.Settling.{Settles};
 
 use crate::keeping::{Ending, keep};
-use crate::reading::unit_reads;
-use crate::replies::{not_yet, refusal, unit_line, waiting_line};
+use crate::replies::{refusal, unit_line, waiting_line};
 use crate::spelled::are_spelled_lines;
 use crate::{Answer, AnswerFault};
 use abc_groups::first_missing_with;
@@ -54,12 +53,9 @@ pub(crate) fn answer_unit<H: Host>(
     requires sound { IsTrue store.old.sound }
     requires holds { H.tells_image → Holds (H.now host.old).image (work_of store.old) }
     requires spelled { unit_of_lines unit.lines ≡ Some unit }
-    ensures { Answers H.tells_image H.now H.clock H.stopped store.old store.new host.old host.new result
-        (unit_outcome store.old.bounds k (work_of store.old) unit) }
+    ensures { (behind : Behind) → Settles H.tells_image H.now H.clock H.stopped store.old store.new host.old host.new result behind.lines
+        (unit_outcome store.old.bounds k (work_of store.old) behind unit) }
 {
-    if unit_reads(&unit) {
-        return not_yet(alloc, k);
-    }
     if !store.has_room_for(&unit) {
         return refusal(alloc, k, Vec::new(alloc), 1, "TooManyUnits");
     }

@@ -6,3 +6,4 @@ mod Calls
 mod Rows
 pub mod Unread
 pub mod LineParts
+pub mod Called

@@ -1,5 +1,6 @@
 -- What a reader of lines tells of its input.
 use Rattle.std.specs.Prelude.{◌≡◌, ◌≢◌, ◌⊎◌, ℕ, Bool, true, false, List, [], ◌∷◌, ◌++◌}
+use Rattle.std.specs.List.{AllByRecursion}
 use Rattle.abc_num.specs.Lines.{HasNoLf, line_feed, raw_line, raw_lines}
 use Rattle.abc_num.specs.declared.lines.RawLine.{RawLine}
 
@@ -7,6 +8,10 @@ use Rattle.abc_num.specs.declared.lines.RawLine.{RawLine}
 pub record Unread : Type 0 where
   pub bytes : List ℕ
   pub ends : Bool
+
+-- nothing is there yet, and the input goes on
+abbrev pub none_yet : Unread
+none_yet = record { bytes = []; ends = false }
 
 -- the lines of what is unread
 abbrev pub lines_in : Unread → List RawLine
@@ -27,6 +32,18 @@ IsOver unread = (unread.bytes ≡ []) × (unread.ends ≡ true)
 -- the input goes on, and what is unread of it is within one line
 abbrev pub IsWithinLine : Unread → Type 0
 IsWithinLine unread = HasNoLf unread.bytes × (unread.ends ≡ false)
+
+-- calls of `next` led from one reader to another, each made on a reader with this property
+pub record Called {L : Type 0} (leads : List L → L → L → Type 0) (property : L → Type 0) (old new : L) : Type 0 where
+  pub called : List L
+  pub each : AllByRecursion property called
+  pub reads_on : leads called old new
+
+-- a call on a reader with this property failed for want of a byte, and left this one
+pub record Failed {L : Type 0} (leaves : L → L → Type 0) (property : L → Type 0) (new : L) : Type 0 where
+  pub there : L
+  pub asks : property there
+  pub is : leaves there new
 
 -- A line is the first of the lines of the input, and the others are those of what is left.
 abbrev pub FirstIsFirst : Type 0

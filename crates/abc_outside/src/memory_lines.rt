@@ -58,7 +58,7 @@ fn line_of(alloc: Global, text: &[u8]) -> Result<RawLine, OutOfMemory>
 impl MemoryLines {
     /// The lines of this input, none of which is used.
     pub fn new(alloc: Global, input: Vec<u8>) -> MemoryLines
-        ensures unread { ⟦<MemoryLines as Lines>⟧.unread result ≡ record { bytes = input.items; ends = true } }
+        ensures unread { ⟦<MemoryLines as Lines>⟧.unread tt result ≡ record { bytes = input.items; ends = true } }
         ensures taken { ⟦<MemoryLines as Lines>⟧.taken result ≡ 0 }
     {
         MemoryLines {
@@ -70,9 +70,13 @@ impl MemoryLines {
 }
 
 impl Lines for MemoryLines {
-    ghost tells_unread = { Unit {0} };
+    ghost Input = { Unit {0} };
 
-    ghost unread = { λ lines. record { bytes = drop lines.used lines.input.items; ends = true } };
+    ghost may_be = { λ _ _. Unit {0} };
+
+    ghost unread = { λ _ lines. record { bytes = drop lines.used lines.input.items; ends = true } };
+
+    ghost failed = { λ _ _. ⊥ };
 
     ghost taken = { λ lines. lines.used };
 
@@ -80,11 +84,11 @@ impl Lines for MemoryLines {
 
     ghost faults = { λ _. 0 };
 
-    ghost reads_on = { λ old new. new.input.items ≡ old.input.items };
+    ghost reads_on = { λ _ old new. new.input.items ≡ old.input.items };
 
     ghost reads_on_at_once = { λ lines. refl };
 
-    ghost reads_on_later = { λ first later last some more. more ∙ some };
+    ghost reads_on_later = { λ _ _ first later last some more. more ∙ some };
 
     fn next(&mut self) -> Result<Option<RawLine>, LineStop> {
         let rest = &self.input[self.used..];

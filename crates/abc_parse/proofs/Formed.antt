@@ -378,7 +378,7 @@ module _ (facts : Facts) (kinds : List ℕ → RefinementKind) where
         let low : x.0.edges.indent ≤ row.edges.indent = next_low facts above row x.0 x.1 n g in omega arith)
   ]
 
-  heading_head : (r : Role) (h : Head) (beside : Option ActionNode) → suits r h beside ≡ true → is_refinement r ≡ true → (x : List ℕ) × (refined h ≡ Some x)
+  pub heading_head : (r : Role) (h : Head) (beside : Option ActionNode) → suits r h beside ≡ true → is_refinement r ≡ true → (x : List ℕ) × (refined h ≡ Some x)
   heading_head role.UnitHeading h b s e = absurd cc
   heading_head role.Alternative h b s e = absurd cc
   heading_head role.Command h b s e = absurd cc

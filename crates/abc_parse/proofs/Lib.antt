@@ -10,3 +10,17 @@ mod Computed
 mod Taking
 mod Said
 mod Backward
+mod PartsMade
+mod EachPart
+mod EachLine
+mod EachItem
+mod Titles
+mod Different
+mod SimpleNodes
+mod Limits
+mod FewNames
+mod Opened
+mod Headings
+mod SharedNumbers
+mod Rising
+mod Settled

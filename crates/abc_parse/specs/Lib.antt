@@ -4,4 +4,5 @@ pub mod Roots
 pub mod Trees
 pub mod Items
 pub mod Readings
+pub mod WellFormed
 pub mod inner

@@ -7,6 +7,11 @@ ghost use Rattle.abc_tree.specs.declared.commands.Item.{Item};
 ghost use Rattle.abc_faults.specs.Faults.{item_fault};
 ghost use Rattle.abc_parse.specs.Items.{SpellsItem};
 ghost use Rattle.abc_parse.specs.Readings.{item_of};
+ghost use Rattle.abc_parse.specs.WellFormed.{IsWellFormed};
+
+use abc_clauses::{
+    computed_alternative, computed_command, computed_heading, computed_refinement, edges_of_lines,
+};
 
 /// Lines have at most one item.
 pub fn one_item()
@@ -29,3 +34,15 @@ pub fn unit_alone()
     ensures computed { (lines : List Line) (s t : List (List ℕ)) → is_unit (rows_of lines) ≡ true → item_of lines s ≡ item_of lines t }
     ensures tree { (lines : List Line) (s t : List (List ℕ)) (item : Item) → is_unit (rows_of lines) ≡ true → SpellsItem lines s item → SpellsItem lines t item }
 {}
+
+/// The item that is computed for lines is well formed: its names are different and not too many, its suites few, its lines those
+/// of the item and in their order, and the formals of a unit fill its template.
+pub fn well_formed_items()
+    ensures { (lines : List Line) (targets : List (List ℕ)) (item : Item) → item_of lines targets ≡ Some item → IsWellFormed item }
+{
+    computed_command();
+    computed_alternative();
+    computed_heading();
+    computed_refinement();
+    edges_of_lines();
+}

@@ -13,5 +13,5 @@ mod shares;
 
 pub use fault::ItemFault;
 pub use items::parse_item;
-pub use laws::{computed_item, faultless, one_item, unit_alone};
+pub use laws::{computed_item, faultless, one_item, unit_alone, well_formed_items};
 pub use parts::{Part, Root};

@@ -10,3 +10,4 @@ pub mod CallLemmas
 pub mod GoingOn
 pub mod Growing
 pub mod Reading
+pub mod Asking

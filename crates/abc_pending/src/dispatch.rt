@@ -1,9 +1,11 @@
 //! How each piece of pending work begins, and how what waits goes on with a reply. The stack of what waits is the caller's.
-ghost use Rattle.std.specs.Prelude.{◌≡◌, ◌≤◌, ◌<◌, ◌+◌, Bool, List, IfOk, IsErrOf};
+ghost use Rattle.std.specs.Prelude.{◌≡◌, ◌≤◌, ◌<◌, ◌+◌, ◌⊎◌, Bool, true, List, IfOk, IsErrOf};
 ghost use Rattle.abc_num.specs.declared.lines.RawLine.{RawLine};
 ghost use Rattle.abc_tree.specs.declared.commands.Unit.{Unit as Routine};
 ghost use Rattle.abc_frames.specs.Maps.{Targets as Store};
 ghost use Rattle.abc_outside.specs.Outside.{RoseByOne};
+ghost use Rattle.abc_outside.specs.Lines.{none_yet, Called, Failed};
+ghost use Rattle.abc_meaning.specs.Laws.{wants_line};
 ghost use Rattle.abc_meaning.specs.Meaning.{meaning};
 ghost use Rattle.abc_acts.specs.Views.{at, flow_of, scope_of, state_of};
 ghost use Rattle.abc_pending.specs.Leads.{as_flow, below, caller_of, now, resume, resume_flow};
@@ -38,7 +40,8 @@ pub fn begin<'a, L: Lines>(
     targets: &mut Targets,
     lines: &mut L,
 ) -> Result<Next<'a>, Stopped>
-    ensures leads { L.tells_unread → Starts units.now (scope_of scope.new) result (state_with run.new targets.new (L.unread lines.old)) (state_with run.new targets.new (L.unread lines.new)) (now units.now (scope_of scope.old) work.entry.0 (job_of work.entry.1) (state_with run.old targets.old (L.unread lines.old))) }
+    ensures may_be { (input : L.Input) → L.may_be input lines.new → L.may_be input lines.old }
+    ensures leads { (input : L.Input) → L.may_be input lines.new → Starts units.now (scope_of scope.new) result (state_with run.new targets.new (L.unread input lines.old)) (state_with run.new targets.new (L.unread input lines.new)) (now units.now (scope_of scope.old) work.entry.0 (job_of work.entry.1) (state_with run.old targets.old (L.unread input lines.old))) }
     ensures scope { IfOk result (λ next. below_next (scope_of scope.new) next ≡ scope_of scope.old) }
     ensures within { IsWithin units.now (scope_of scope.old) → IfOk result (λ _. IsWithin units.now (scope_of scope.new)) }
     ensures left { (run.new.left ≤ run.old.left) × (run.old.left ≤ run.new.left + 1) }
@@ -48,7 +51,8 @@ pub fn begin<'a, L: Lines>(
     ensures long { IsErrOf result Stopped.Long → L.taken lines.new ≡ L.bound lines.new }
     ensures input { IsErrOf result Stopped.Input → RoseByOne (L.faults lines.old) (L.faults lines.new) }
     ensures faultless { ¬ (IsErrOf result Stopped.Input) → L.faults lines.new ≡ L.faults lines.old }
-    ensures reads_on { L.reads_on lines.old lines.new }
+    ensures calls { Called L.reads_on (λ l. (l ≡ lines.old) × (wants_line (now units.now (scope_of scope.old) work.entry.0 (job_of work.entry.1) (state_with run.old targets.old none_yet)) ≡ true)) lines.old lines.new }
+    ensures failed { (IsErrOf result Stopped.Long ⊎ IsErrOf result Stopped.Input) → Failed L.failed (λ l. (l ≡ lines.old) × (wants_line (now units.now (scope_of scope.old) work.entry.0 (job_of work.entry.1) (state_with run.old targets.old none_yet)) ≡ true)) lines.new }
 {
     let Work(place, job) = work;
     match job {
@@ -124,7 +128,8 @@ pub fn begin_item<'a, L: Lines>(
     run: &mut Run,
     lines: &mut L,
 ) -> Result<Next<'a>, Stopped>
-    ensures leads { (units : List Routine) (targets : Store) → L.tells_unread → Starts units (scope_of scope.now) result (state_with run.new targets (L.unread lines.old)) (state_with run.new targets (L.unread lines.new)) (as_flow ((meaning units place.levels).acts (at (scope_of scope.now) place.line) action.now (state_with run.old targets (L.unread lines.old)))) }
+    ensures may_be { (input : L.Input) → L.may_be input lines.new → L.may_be input lines.old }
+    ensures leads { (units : List Routine) (targets : Store) (input : L.Input) → L.may_be input lines.new → Starts units (scope_of scope.now) result (state_with run.new targets (L.unread input lines.old)) (state_with run.new targets (L.unread input lines.new)) (as_flow ((meaning units place.levels).acts (at (scope_of scope.now) place.line) action.now (state_with run.old targets (L.unread input lines.old)))) }
     ensures scope { IfOk result (λ next. below_next (scope_of scope.now) next ≡ scope_of scope.now) }
     ensures left { (run.new.left ≤ run.old.left) × (run.old.left ≤ run.new.left + 1) }
     ensures falls { IfOk result (λ next. (run.new.left + 1 ≡ run.old.left) × (next_weight next < action_size action.now)) }
@@ -133,7 +138,8 @@ pub fn begin_item<'a, L: Lines>(
     ensures long { IsErrOf result Stopped.Long → L.taken lines.new ≡ L.bound lines.new }
     ensures input { IsErrOf result Stopped.Input → RoseByOne (L.faults lines.old) (L.faults lines.new) }
     ensures faultless { ¬ (IsErrOf result Stopped.Input) → L.faults lines.new ≡ L.faults lines.old }
-    ensures reads_on { L.reads_on lines.old lines.new }
+    ensures calls { Called L.reads_on (λ l. (l ≡ lines.old) × ((units : List Routine) (targets : Store) → wants_line (as_flow ((meaning units place.levels).acts (at (scope_of scope.now) place.line) action.now (state_with run.old targets none_yet))) ≡ true)) lines.old lines.new }
+    ensures failed { (IsErrOf result Stopped.Long ⊎ IsErrOf result Stopped.Input) → Failed L.failed (λ l. (l ≡ lines.old) × ((units : List Routine) (targets : Store) → wants_line (as_flow ((meaning units place.levels).acts (at (scope_of scope.now) place.line) action.now (state_with run.old targets none_yet))) ≡ true)) lines.new }
 {
     perform(alloc, scope, place, action, run, lines)
 }

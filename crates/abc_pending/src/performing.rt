@@ -1,14 +1,16 @@
 //! How commands begin: one of them, those of a suite, and the alternatives of a SELECT.
-ghost use Rattle.std.specs.Prelude.{◌≡◌, ◌∷◌, [], ◌<◌, ◌≤◌, ◌+◌, Bool, List, drop, IfNone, IfOk, IfSome, IsErrOf};
+ghost use Rattle.std.specs.Prelude.{◌≡◌, ◌∷◌, [], ◌<◌, ◌≤◌, ◌+◌, ◌⊎◌, Bool, true, List, drop, IfNone, IfOk, IfSome, IsErrOf};
 ghost use Rattle.abc_num.specs.declared.lines.RawLine.{RawLine};
 ghost use Rattle.abc_tree.specs.declared.commands.Unit.{Unit as Routine};
 ghost use Rattle.abc_tree.specs.declared.commands.ActionNode.{out-ActionNode};
 ghost use Rattle.abc_tree.specs.declared.commands.ActionNode.TheOpen.{ActionNode-F};
 ghost use Rattle.abc_frames.specs.Maps.{Targets as Store};
 ghost use Rattle.abc_outside.specs.Outside.{RoseByOne};
+ghost use Rattle.abc_outside.specs.Lines.{none_yet, Called, Failed};
 ghost use Rattle.abc_meaning.specs.State.{State, after};
 ghost use Rattle.abc_meaning.specs.Here.{Scope as Names};
 ghost use Rattle.abc_meaning.specs.Changing.{delete, parts};
+ghost use Rattle.abc_meaning.specs.Laws.{wants_line};
 ghost use Rattle.abc_value.specs.declared.faults.RunFault.TheVariants.{TooDeep};
 ghost use Rattle.abc_acts.specs.declared.halt.Halt.TheVariants.{Fault};
 ghost use Rattle.abc_meaning.specs.Addresses.{address as address_by};
@@ -106,7 +108,8 @@ pub fn perform_at<'a, L: Lines>(
     run: &mut Run,
     lines: &mut L,
 ) -> Result<Next<'a>, Stopped>
-    ensures leads { (units : List Routine) (targets : Store) → L.tells_unread → Starts units (scope_of scope.now) result (state_with run.new targets (L.unread lines.old)) (state_with run.new targets (L.unread lines.new)) (as_flow (first_of units (meaning units place.levels) (standing_at (scope_of scope.now) place.line) (drop at suite.now) (state_with run.old targets (L.unread lines.old)))) }
+    ensures may_be { (input : L.Input) → L.may_be input lines.new → L.may_be input lines.old }
+    ensures leads { (units : List Routine) (targets : Store) (input : L.Input) → L.may_be input lines.new → Starts units (scope_of scope.now) result (state_with run.new targets (L.unread input lines.old)) (state_with run.new targets (L.unread input lines.new)) (as_flow (first_of units (meaning units place.levels) (standing_at (scope_of scope.now) place.line) (drop at suite.now) (state_with run.old targets (L.unread input lines.old)))) }
     ensures scope { IfOk result (λ next. below_next (scope_of scope.now) next ≡ scope_of scope.now) }
     ensures left { (run.new.left ≤ run.old.left) × (run.old.left ≤ run.new.left + 1) }
     ensures falls { (units : List Routine) → IfOk result (λ next. Falls units run.new.left (next_weight next) run.old.left (first_size (drop at suite.now))) }
@@ -115,7 +118,8 @@ pub fn perform_at<'a, L: Lines>(
     ensures long { IsErrOf result Stopped.Long → L.taken lines.new ≡ L.bound lines.new }
     ensures input { IsErrOf result Stopped.Input → RoseByOne (L.faults lines.old) (L.faults lines.new) }
     ensures faultless { ¬ (IsErrOf result Stopped.Input) → L.faults lines.new ≡ L.faults lines.old }
-    ensures reads_on { L.reads_on lines.old lines.new }
+    ensures calls { Called L.reads_on (λ l. (l ≡ lines.old) × ((units : List Routine) (targets : Store) → wants_line (as_flow (first_of units (meaning units place.levels) (standing_at (scope_of scope.now) place.line) (drop at suite.now) (state_with run.old targets none_yet))) ≡ true)) lines.old lines.new }
+    ensures failed { (IsErrOf result Stopped.Long ⊎ IsErrOf result Stopped.Input) → Failed L.failed (λ l. (l ≡ lines.old) × ((units : List Routine) (targets : Store) → wants_line (as_flow (first_of units (meaning units place.levels) (standing_at (scope_of scope.now) place.line) (drop at suite.now) (state_with run.old targets none_yet))) ≡ true)) lines.new }
 {
     match front(suite, at) {
         None => Ok(Next::Give(Reply::Went(Exit::GoesOn))),
@@ -133,7 +137,8 @@ pub fn perform<'a, L: Lines>(
     run: &mut Run,
     lines: &mut L,
 ) -> Result<Next<'a>, Stopped>
-    ensures leads { (units : List Routine) (targets : Store) → L.tells_unread → Starts units (scope_of scope.now) result (state_with run.new targets (L.unread lines.old)) (state_with run.new targets (L.unread lines.new)) (as_flow ((meaning units place.levels).acts (standing_at (scope_of scope.now) place.line) action.now (state_with run.old targets (L.unread lines.old)))) }
+    ensures may_be { (input : L.Input) → L.may_be input lines.new → L.may_be input lines.old }
+    ensures leads { (units : List Routine) (targets : Store) (input : L.Input) → L.may_be input lines.new → Starts units (scope_of scope.now) result (state_with run.new targets (L.unread input lines.old)) (state_with run.new targets (L.unread input lines.new)) (as_flow ((meaning units place.levels).acts (standing_at (scope_of scope.now) place.line) action.now (state_with run.old targets (L.unread input lines.old)))) }
     ensures scope { IfOk result (λ next. below_next (scope_of scope.now) next ≡ scope_of scope.now) }
     ensures left { (run.new.left ≤ run.old.left) × (run.old.left ≤ run.new.left + 1) }
     ensures falls { IfOk result (λ next. (run.new.left + 1 ≡ run.old.left) × (next_weight next < action_size action.now)) }
@@ -142,7 +147,8 @@ pub fn perform<'a, L: Lines>(
     ensures long { IsErrOf result Stopped.Long → L.taken lines.new ≡ L.bound lines.new }
     ensures input { IsErrOf result Stopped.Input → RoseByOne (L.faults lines.old) (L.faults lines.new) }
     ensures faultless { ¬ (IsErrOf result Stopped.Input) → L.faults lines.new ≡ L.faults lines.old }
-    ensures reads_on { L.reads_on lines.old lines.new }
+    ensures calls { Called L.reads_on (λ l. (l ≡ lines.old) × ((units : List Routine) (targets : Store) → wants_line (as_flow ((meaning units place.levels).acts (standing_at (scope_of scope.now) place.line) action.now (state_with run.old targets none_yet))) ≡ true)) lines.old lines.new }
+    ensures failed { (IsErrOf result Stopped.Long ⊎ IsErrOf result Stopped.Input) → Failed L.failed (λ l. (l ≡ lines.old) × ((units : List Routine) (targets : Store) → wants_line (as_flow ((meaning units place.levels).acts (standing_at (scope_of scope.now) place.line) action.now (state_with run.old targets none_yet))) ≡ true)) lines.new }
 {
     let line = scope.line_at(action.line, place.line);
     if place.levels == 0 {
@@ -176,7 +182,8 @@ fn act<'a, L: Lines>(
     run: &mut Run,
     lines: &mut L,
 ) -> Result<Next<'a>, Stopped>
-    ensures leads { (units : List Routine) (scope : Names) (targets : Store) → L.tells_unread → Starts units scope result (state_with run.new targets (L.unread lines.old)) (state_with run.new targets (L.unread lines.new)) (as_flow (acts_with units (meaning units place.levels) (standing_at scope place.line) (out-ActionNode node.now) (state_with run.old targets (L.unread lines.old)))) }
+    ensures may_be { (input : L.Input) → L.may_be input lines.new → L.may_be input lines.old }
+    ensures leads { (units : List Routine) (scope : Names) (targets : Store) (input : L.Input) → L.may_be input lines.new → Starts units scope result (state_with run.new targets (L.unread input lines.old)) (state_with run.new targets (L.unread input lines.new)) (as_flow (acts_with units (meaning units place.levels) (standing_at scope place.line) (out-ActionNode node.now) (state_with run.old targets (L.unread input lines.old)))) }
     ensures scope { (scope : Names) → IfOk result (λ next. below_next scope next ≡ scope) }
     ensures left { run.new.left ≡ run.old.left }
     ensures falls { IfOk result (λ next. next_weight next < node_size node.now) }
@@ -185,7 +192,8 @@ fn act<'a, L: Lines>(
     ensures long { IsErrOf result Stopped.Long → L.taken lines.new ≡ L.bound lines.new }
     ensures input { IsErrOf result Stopped.Input → RoseByOne (L.faults lines.old) (L.faults lines.new) }
     ensures faultless { ¬ (IsErrOf result Stopped.Input) → L.faults lines.new ≡ L.faults lines.old }
-    ensures reads_on { L.reads_on lines.old lines.new }
+    ensures calls { Called L.reads_on (λ l. (l ≡ lines.old) × ((units : List Routine) (scope : Names) (targets : Store) → wants_line (as_flow (acts_with units (meaning units place.levels) (standing_at scope place.line) (out-ActionNode node.now) (state_with run.old targets none_yet))) ≡ true)) lines.old lines.new }
+    ensures failed { (IsErrOf result Stopped.Long ⊎ IsErrOf result Stopped.Input) → Failed L.failed (λ l. (l ≡ lines.old) × ((units : List Routine) (scope : Names) (targets : Store) → wants_line (as_flow (acts_with units (meaning units place.levels) (standing_at scope place.line) (out-ActionNode node.now) (state_with run.old targets none_yet))) ≡ true)) lines.new }
 {
     match node {
         ActionNode::ReadExample { address, example } => {
@@ -339,7 +347,8 @@ fn read_example<'a, L: Lines>(
     example: &Expr,
     lines: &mut L,
 ) -> Result<Next<'a>, Stopped>
-    ensures leads { (units : List Routine) (scope : Names) (s : State) → L.tells_unread → Starts units scope result (with_lines (L.unread lines.old) s) (with_lines (L.unread lines.new) s) (as_flow (acts_with units (meaning units place.levels) (standing_at scope place.line) (ActionNode-F.ReadExample address.now example.now) (with_lines (L.unread lines.old) s))) }
+    ensures may_be { (input : L.Input) → L.may_be input lines.new → L.may_be input lines.old }
+    ensures leads { (units : List Routine) (scope : Names) (s : State) (input : L.Input) → L.may_be input lines.new → Starts units scope result (with_lines (L.unread input lines.old) s) (with_lines (L.unread input lines.new) s) (as_flow (acts_with units (meaning units place.levels) (standing_at scope place.line) (ActionNode-F.ReadExample address.now example.now) (with_lines (L.unread input lines.old) s))) }
     ensures scope { (scope : Names) → IfOk result (λ next. below_next scope next ≡ scope) }
     ensures falls { IfOk result (λ next. next_weight next ≡ 2 + expr_size address.now) }
     ensures bound { L.bound lines.new ≡ L.bound lines.old }
@@ -347,7 +356,8 @@ fn read_example<'a, L: Lines>(
     ensures long { IsErrOf result Stopped.Long → L.taken lines.new ≡ L.bound lines.new }
     ensures input { IsErrOf result Stopped.Input → RoseByOne (L.faults lines.old) (L.faults lines.new) }
     ensures faultless { ¬ (IsErrOf result Stopped.Input) → L.faults lines.new ≡ L.faults lines.old }
-    ensures reads_on { L.reads_on lines.old lines.new }
+    ensures calls { Called L.reads_on (λ l. (l ≡ lines.old) × ((units : List Routine) (scope : Names) (s : State) → wants_line (as_flow (acts_with units (meaning units place.levels) (standing_at scope place.line) (ActionNode-F.ReadExample address.now example.now) (with_lines none_yet s))) ≡ true)) lines.old lines.new }
+    ensures failed { (IsErrOf result Stopped.Long ⊎ IsErrOf result Stopped.Input) → Failed L.failed (λ l. (l ≡ lines.old) × ((units : List Routine) (scope : Names) (s : State) → wants_line (as_flow (acts_with units (meaning units place.levels) (standing_at scope place.line) (ActionNode-F.ReadExample address.now example.now) (with_lines none_yet s))) ≡ true)) lines.new }
 {
     let line = match take_line(lines) {
         Ok(line) => line,
@@ -369,7 +379,8 @@ fn read_raw<'a, L: Lines>(
     address: &'a Expr,
     lines: &mut L,
 ) -> Result<Next<'a>, Stopped>
-    ensures leads { (units : List Routine) (scope : Names) (s : State) → L.tells_unread → Starts units scope result (with_lines (L.unread lines.old) s) (with_lines (L.unread lines.new) s) (as_flow (acts_with units (meaning units place.levels) (standing_at scope place.line) (ActionNode-F.ReadRaw address.now) (with_lines (L.unread lines.old) s))) }
+    ensures may_be { (input : L.Input) → L.may_be input lines.new → L.may_be input lines.old }
+    ensures leads { (units : List Routine) (scope : Names) (s : State) (input : L.Input) → L.may_be input lines.new → Starts units scope result (with_lines (L.unread input lines.old) s) (with_lines (L.unread input lines.new) s) (as_flow (acts_with units (meaning units place.levels) (standing_at scope place.line) (ActionNode-F.ReadRaw address.now) (with_lines (L.unread input lines.old) s))) }
     ensures scope { (scope : Names) → IfOk result (λ next. below_next scope next ≡ scope) }
     ensures falls { IfOk result (λ next. next_weight next ≡ 2 + expr_size address.now) }
     ensures bound { L.bound lines.new ≡ L.bound lines.old }
@@ -377,7 +388,8 @@ fn read_raw<'a, L: Lines>(
     ensures long { IsErrOf result Stopped.Long → L.taken lines.new ≡ L.bound lines.new }
     ensures input { IsErrOf result Stopped.Input → RoseByOne (L.faults lines.old) (L.faults lines.new) }
     ensures faultless { ¬ (IsErrOf result Stopped.Input) → L.faults lines.new ≡ L.faults lines.old }
-    ensures reads_on { L.reads_on lines.old lines.new }
+    ensures calls { Called L.reads_on (λ l. (l ≡ lines.old) × ((units : List Routine) (scope : Names) (s : State) → wants_line (as_flow (acts_with units (meaning units place.levels) (standing_at scope place.line) (ActionNode-F.ReadRaw address.now) (with_lines none_yet s))) ≡ true)) lines.old lines.new }
+    ensures failed { (IsErrOf result Stopped.Long ⊎ IsErrOf result Stopped.Input) → Failed L.failed (λ l. (l ≡ lines.old) × ((units : List Routine) (scope : Names) (s : State) → wants_line (as_flow (acts_with units (meaning units place.levels) (standing_at scope place.line) (ActionNode-F.ReadRaw address.now) (with_lines none_yet s))) ≡ true)) lines.new }
 {
     let line = match take_line(lines) {
         Ok(line) => line,

@@ -6,4 +6,9 @@ mod Pieces
 pub mod Started
 pub mod Feeding
 pub mod ReadingOn
+pub mod RawLines
+mod FirstLines
+pub mod Inputs
+pub mod Lending
+pub mod Closed
 mod AskingRows

@@ -3,3 +3,4 @@ pub mod inner
 pub mod Asking
 pub mod Items
 pub mod Reading
+pub mod Lending

@@ -1,10 +1,11 @@
 -- Where a reader stands in its input, and what its calls do.
-use Rattle.std.specs.Prelude.{◌≡◌, ◌≤◌, ◌<◌, ℕ, ◌+◌, ◌-◌, ◌^◌, Bool, true, false, List, [], ◌++◌, length, take, nat_lt, Option, None, Some}
+use Rattle.std.specs.Prelude.{◌≡◌, ◌≤◌, ◌<◌, ℕ, ◌+◌, ◌-◌, ◌^◌, Bool, true, false, List, [], ◌∷◌, ◌++◌, length, take, nat_lt, if◌then◌else◌, Option, None, Some}
 use Rattle.std.specs.List.{AllByRecursion}
-use Rattle.abc_num.specs.Lines.{raw_lines}
+use Rattle.abc_num.specs.Lines.{line_feed, carriage_return, HasNoLf, raw_line, raw_lines}
 use Rattle.abc_num.specs.declared.limits.TheConstants.{MOST_LINE_BYTES}
 use Rattle.abc_num.specs.declared.lines.Line.{Line}
 use Rattle.abc_num.specs.declared.lines.RawLine.{RawLine}
+use Rattle.abc_outside.specs.Lines.{Unread, lines_in}
 use Rattle.abc_outside.specs.Outside.{Outside, KeepsButInput}
 use Rattle.abc_outside.specs.Stop.{Leaves}
 use Rattle.abc_turns.specs.Session.{no_item, not_yet, whole_item}
@@ -44,6 +45,43 @@ lines_at r left = r.ahead ++ lines_behind r left
 -- lines that may follow those that were read: any, as long as the end of the input was not found; and then those that are left
 abbrev pub MayFollow : Reading → List ℕ → Bool → List RawLine → Type 0
 MayFollow r left ends rest = r.ended ≡ true → (ends ≡ ends_at r left) × (rest ≡ lines_behind r left)
+
+-- a line as it is cut out of bytes without an LF
+abbrev pub IsRaw : RawLine → Type 0
+IsRaw line = (text : List ℕ) × HasNoLf text × (line ≡ raw_line text)
+
+-- Bytes that are cut into this line: those that it kept, a byte for those that were dropped, and the end of a line.
+abbrev pub as_bytes : RawLine → List ℕ
+as_bytes line = (line.bytes ++ (if line.long then 0 ∷ [] else [])) ++ carriage_return ∷ line_feed ∷ []
+
+abbrev pub bytes_of : List RawLine → List ℕ
+bytes_of [] = []
+bytes_of (line ∷ lines) = as_bytes line ++ bytes_of lines
+
+-- how many bytes were used by lines
+abbrev pub bytes_used : Reading → ℕ
+bytes_used r = r.used + length r.ahead
+
+-- An input that a reader may have, where this is left of the real one: that one, or as many bytes of it, where the input goes on behind them.
+abbrev pub MayBe : Type 0 → Option ℕ → Reading → List ℕ → Type 0
+MayBe tells_input None r left = tells_input
+MayBe tells_input (Some n) r left = tells_input × (r.ended ≡ false) × (bytes_used r ≤ n) × (n ≤ r.taken + length left) × (n ≤ r.bound)
+
+-- What a reader of lines tells of such an input: bytes that are cut into the lines that are still to come, up to the bound.
+abbrev pub unread_in : Option ℕ → Reading → List ℕ → Unread
+unread_in None r left = record { bytes = bytes_of r.ahead ++ (r.pending ++ take (r.bound - r.taken) left); ends = ends_at r left }
+unread_in (Some n) r left = record { bytes = bytes_of r.ahead ++ take (n - bytes_used r) (r.pending ++ left); ends = false }
+
+-- with so many bytes of the input in all no line is to come yet
+abbrev pub WaitsAt : Type 0 → ℕ → Reading → List ℕ → Type 0
+WaitsAt tells_input n r left = MayBe tells_input (Some n) r left × (lines_in (unread_in (Some n) r left) ≡ [])
+
+-- what holds of every reader
+pub record IsReader (r : Reading) : Type 0 where
+  pub counted : bytes_used r + length r.pending ≡ r.taken
+  pub within : r.taken ≤ r.bound
+  pub small : r.bound ≤ 2 ^ 64 - 1
+  pub raw : AllByRecursion IsRaw r.ahead
 
 -- The next bytes were used, whole lines all of them; so many were taken since.
 pub record UsesLines (pending left : List ℕ) (taken : ℕ) (pending_new left_new : List ℕ) (taken_new : ℕ) (lines : List RawLine) : Type 0 where

@@ -5,7 +5,12 @@ mod laws;
 mod line;
 mod line_reader;
 mod reader;
+mod reader_lines;
 mod scan;
 
 pub use laws::items_are_steady;
 pub use reader::Reader;
+pub use reader_lines::ReaderLines;
+
+#[cfg(test)]
+mod tests;

@@ -70,8 +70,8 @@ fn read_piece<H: Host>(host: &mut H, piece: &mut [u8], most: u64) -> Result<usiz
 }
 
 impl LineReader {
-    ghost use Rattle.abc_reader.specs.inner.LineReading.{shown, pending_of, used_of, lines_left, TookPart, WantsLine, AsksLine};
-    ghost use Rattle.abc_reader.specs.Reading.{UsesLines};
+    ghost use Rattle.abc_reader.specs.inner.LineReading.{shown, pending_of, used_of, lines_left, unread_of, going_on, Consumes, ConsumesOpen, TookPart, WantsLine, AsksLine};
+    ghost use Rattle.abc_reader.specs.Reading.{UsesLines, IsRaw};
 
     pub(crate) fn new(alloc: Global, bound: u64) -> LineReader
         ensures taken { result.taken ≡ 0 }
@@ -90,13 +90,21 @@ impl LineReader {
         }
     }
 
+    /// How many bytes may be taken.
+    pub(crate) fn bound(&self) -> u64
+        ensures { result ≡ self.now.bound }
+    {
+        self.bound
+    }
+
     /// Moves the pending bytes into the line, up to the LF that ends it. True where there is one.
     fn take_part(&mut self, line: &mut Gathered) -> Result<bool, LineStop>
         ensures part { IfOk result (λ found. TookPart (pending_of self.old) (pending_of self.new) (shown line.old) (shown line.new) found) }
         ensures used { result ≡ Ok true → used_of self.old < used_of self.new }
-        ensures no_fewer { OnOk result (used_of self.old ≤ used_of self.new) }
+        ensures no_fewer { used_of self.old ≤ used_of self.new }
         ensures size { OnOk result (length line.new.bytes.items + used_of self.old ≤ length line.old.bytes.items + used_of self.new) }
         ensures memory { IfErr result (λ stop. stop ≡ LineStop.Memory) }
+        ensures failed { OnErr result (self.new ≡ self.old) }
         ensures taken { self.new.taken ≡ self.old.taken }
         ensures bound { self.new.bound ≡ self.old.bound }
         ensures ended { self.new.ended ≡ self.old.ended }
@@ -144,13 +152,14 @@ impl LineReader {
         ensures count { OnOk result (self.new.taken ≡ self.old.taken + length (pending_of self.new)) }
         ensures end { H.tells_input → OnOk result (self.new.ended ≡ true → (H.now host.old).left ≡ []) }
         ensures more { OnOk result ((self.new.ended ≡ true) ⊎ (self.old.taken < self.new.taken)) }
-        ensures used_same { OnOk result (used_of self.new ≡ used_of self.old) }
+        ensures used_same { used_of self.new ≡ used_of self.old }
         ensures not_long { IsErrOf result LineStop.Long → ⊥ }
         ensures memory_faultless { IsErrOf result LineStop.Memory → (H.now host.new).input_faults ≡ (H.now host.old).input_faults }
         ensures input { IsErrOf result LineStop.Input → RoseByOne (H.now host.old).input_faults (H.now host.new).input_faults }
         ensures faultless { OnOk result ((H.now host.new).input_faults ≡ (H.now host.old).input_faults) }
 
         ensures failed { OnErr result (self.new.taken ≡ self.old.taken) }
+        ensures failed_pending { OnErr result (pending_of self.new ≡ []) }
         ensures failed_ended { OnErr result (self.new.ended ≡ self.old.ended) }
         ensures failed_left { OnErr result ((H.now host.new).left ≡ (H.now host.old).left) }
         ensures counts { (H.now host.new).taken ≡ self.new.taken }
@@ -179,12 +188,22 @@ impl LineReader {
 
         ensures line { H.tells_input → IfOk result (λ found. MatchOption found ((lines_left self.old (H.now host.old).left ≡ []) × (lines_left self.new (H.now host.new).left ≡ []) × (self.new.ended ≡ true))
             (λ line. lines_left self.old (H.now host.old).left ≡ line ∷ lines_left self.new (H.now host.new).left)) }
+        ensures raw { IfOk result (λ found. IfSome found IsRaw) }
+        ensures first { H.tells_input → IfOk result (λ found. IfSome found (λ line. IsFirst (unread_of self.old (H.now host.old).left) line (unread_of self.new (H.now host.new).left))) }
+        ensures first_on { H.tells_input → IfOk result (λ found. IfSome found (λ line. self.new.ended ≡ false
+            → IsFirst (going_on (pending_of self.old ++ (H.now host.old).left)) line (going_on (pending_of self.new ++ (H.now host.new).left)))) }
+        ensures consumes { H.tells_input → OnOk result (Consumes (pending_of self.old ++ (H.now host.old).left) (pending_of self.new ++ (H.now host.new).left) (used_of self.old) (used_of self.new)) }
+        ensures is_open { H.tells_input → OnErr result (ConsumesOpen (pending_of self.old ++ (H.now host.old).left) (pending_of self.new ++ (H.now host.new).left) (used_of self.old) (used_of self.new)) }
+        ensures over { H.tells_input → IfOk result (λ found. IfNone found (IsOver (unread_of self.old (H.now host.old).left))) }
+        ensures over_stays { H.tells_input → IfOk result (λ found. IfNone found (unread_of self.new (H.now host.new).left ≡ unread_of self.old (H.now host.old).left)) }
+        ensures within { H.tells_input → IsErrOf result LineStop.Long → IsWithinLine (unread_of self.old (H.now host.old).left) }
         ensures uses { H.tells_input → IfOk result (λ found. IfSome found (λ line. self.new.ended ≡ false
             → UsesLines (pending_of self.old) (H.now host.old).left self.old.taken (pending_of self.new) (H.now host.new).left self.new.taken (line ∷ []))) }
         ensures used { IfOk result (λ found. IsSome found → used_of self.old < used_of self.new) }
-        ensures no_fewer { OnOk result (used_of self.old ≤ used_of self.new) }
+        ensures no_fewer { used_of self.old ≤ used_of self.new }
         ensures short { IfOk result (λ found. IfSome found (λ line. length line.bytes ≤ MOST_LINE_BYTES)) }
         ensures end { H.tells_input → IfOk result (λ found. IsNone found → (H.now host.new).left ≡ []) }
+        ensures none_ended { IfOk result (λ found. IsNone found → self.new.ended ≡ true) }
         ensures end_bound { IfOk result (λ found. IsNone found → self.new.taken < self.new.bound) }
 
         ensures long { IsErrOf result LineStop.Long → self.new.taken ≡ self.new.bound }
@@ -205,6 +224,7 @@ impl LineReader {
         ensures stays_ended { self.old.ended ≡ true → self.new.ended ≡ true }
         ensures ended_asks { self.old.ended ≡ true → (H.now host.new).asked ≡ (H.now host.old).asked }
         ensures ended_ends { self.old.ended ≡ true → (IsErrOf result LineStop.Long ⊎ IsErrOf result LineStop.Input) → ⊥ }
+        ensures failed_open { (IsErrOf result LineStop.Long ⊎ IsErrOf result LineStop.Input) → self.new.ended ≡ false }
         ensures rest { KeepsButInput (H.now host.old) (H.now host.new) }
         ensures stops { Leaves H.clock H.stopped host.old host.new (H.stopped host.old (H.clock host.old)) }
         ensures now { (c s : List ℕ) → H.stopped host.new (H.clock host.new) c s → H.stopped host.old (H.clock host.old) c s }

@@ -1,6 +1,7 @@
 //! The reader: the items of the input, one after the other.
-ghost use Rattle.std.specs.Prelude.{◌≡◌, ◌⊎◌, ◌<◌, ◌≤◌, [], List, ℕ, true, suc, length, IfOk, IfSome, OnOk, IsErrOf, IsSome, IsNone};
+ghost use Rattle.std.specs.Prelude.{◌≡◌, ◌⊎◌, ◌<◌, ◌≤◌, [], List, ℕ, Option, true, false, suc, length, IfOk, IfSome, IfNone, OnOk, IsErrOf, IsSome, IsNone};
 ghost use Rattle.abc_num.specs.declared.limits.TheConstants.{MOST_LINE_BYTES};
+ghost use Rattle.abc_outside.specs.Lines.{IsFirst, IsOver, IsWithinLine};
 ghost use Rattle.abc_outside.specs.Outside.{RoseByOne};
 ghost use Rattle.abc_reader.specs.Asking.{Asked};
 
@@ -33,7 +34,8 @@ impl Model for Reader {
 }
 
 impl Reader {
-    ghost use Rattle.abc_reader.specs.Reading.{fresh, TookItem, IsFit, WantsMore, AsksMore, StandsAt, ReadsOn};
+    ghost use Rattle.abc_reader.specs.Reading.{fresh, IsRaw, IsReader, MayBe, WaitsAt, bytes_used, unread_in, TookItem, IsFit, WantsMore, AsksMore, StandsAt, ReadsOn};
+    ghost use Rattle.abc_reader.specs.Lending.{Used};
     ghost use Rattle.abc_reader.specs.inner.LineSteps.{some_line, TookLine, WantsBehind, AsksBehind};
 
     /// A reader that has taken nothing, and takes at most so many bytes.
@@ -47,17 +49,36 @@ impl Reader {
         }
     }
 
+    /// What holds of every reader.
+    pub fn is_reader(&self)
+        ensures { IsReader self.now }
+    {
+        let _bound = self.lines.bound();
+    }
+
     /// The next line: the one that was looked at, or one that is read.
-    fn next<H: Host>(&mut self, host: &mut H) -> Result<Option<RawLine>, LineStop>
+    pub(crate) fn next<H: Host>(&mut self, host: &mut H) -> Result<Option<RawLine>, LineStop>
         requires same_count { (H.now host.old).taken ≡ self.old.taken }
         requires at_end { H.tells_input → self.old.ended ≡ true → (H.now host.old).left ≡ [] }
 
         ensures line { H.tells_input → IfOk result (TookLine self.old (H.now host.old).left self.new (H.now host.new).left) }
+        ensures raw { IfOk result (λ found. IfSome found IsRaw) }
+        ensures may_be { (input : Option ℕ) → MayBe H.tells_input input self.new (H.now host.new).left → MayBe H.tells_input input self.old (H.now host.old).left }
+        ensures first { (input : Option ℕ) → MayBe H.tells_input input self.new (H.now host.new).left
+            → IfOk result (λ found. IfSome found (λ line. IsFirst (unread_in input self.old (H.now host.old).left) line (unread_in input self.new (H.now host.new).left))) }
+        ensures over { (input : Option ℕ) → MayBe H.tells_input input self.new (H.now host.new).left
+            → IfOk result (λ found. IfNone found (IsOver (unread_in input self.old (H.now host.old).left))) }
+        ensures over_stays { (input : Option ℕ) → MayBe H.tells_input input self.new (H.now host.new).left
+            → IfOk result (λ found. IfNone found (unread_in input self.new (H.now host.new).left ≡ unread_in input self.old (H.now host.old).left)) }
+        ensures within { (input : Option ℕ) → MayBe H.tells_input input self.new (H.now host.new).left
+            → IsErrOf result LineStop.Long → IsWithinLine (unread_in input self.old (H.now host.old).left) }
+        ensures used_up { H.tells_input → Used self.old (H.now host.old).left self.new (H.now host.new).left (WaitsAt H.tells_input (bytes_used self.new) self.old (H.now host.old).left) }
         ensures none_ahead { OnOk result (self.new.ahead ≡ []) }
         ensures used { IfOk result (λ found. IfSome found (λ line. suc self.old.used ≤ self.new.used)) }
         ensures short { IfOk result (λ found. IfSome found (λ line. length line.bytes ≤ MOST_LINE_BYTES)) }
         ensures end_bound { IfOk result (λ found. IsNone found → self.new.taken < self.new.bound) }
-        ensures no_fewer { OnOk result (self.old.used ≤ self.new.used) }
+        ensures no_fewer { self.old.used ≤ self.new.used }
+        ensures is_reader { IsReader self.old × IsReader self.new }
 
         ensures long { IsErrOf result LineStop.Long → self.new.taken ≡ self.new.bound }
         ensures input { IsErrOf result LineStop.Input → RoseByOne (H.now host.old).input_faults (H.now host.new).input_faults }
@@ -68,6 +89,7 @@ impl Reader {
         ensures asked { H.tells_said → H.tells_input
             → Asked (AsksBehind self.old (H.now host.old).left (length (H.now host.old).said)) (H.now host.old).asked (H.now host.new).asked }
         ensures ended_ends { self.old.ended ≡ true → (IsErrOf result LineStop.Long ⊎ IsErrOf result LineStop.Input) → ⊥ }
+        ensures failed_open { (IsErrOf result LineStop.Long ⊎ IsErrOf result LineStop.Input) → self.new.ended ≡ false }
         ensures stands { StandsAt H.tells_input self.new (H.now host.new) }
         ensures reads_on { ReadsOn H.tells_input H.tells_said H.now H.clock H.stopped self.old self.new host.old host.new }
     {
@@ -82,6 +104,7 @@ impl Reader {
         requires none { self.old.ahead ≡ [] }
         requires taken { 0 < self.old.used }
         requires short { length line.bytes ≤ MOST_LINE_BYTES }
+        requires raw { IsRaw line }
         ensures ahead { self.new.ahead ≡ some_line (Some line) }
         ensures pending { self.new.pending ≡ self.old.pending }
         ensures used { suc self.new.used ≡ self.old.used }

@@ -7,6 +7,7 @@ ghost use Rattle.abc_terms.specs.Nodes.{AreIn};
 ghost use Rattle.abc_unify.specs.Graphs.{HasSolution};
 ghost use Rattle.abc_unify.specs.Forms.{AreForms, IsKnown};
 ghost use Rattle.abc_scheme.specs.Schemes.{MayHave, StandsFor, IsInside, IsCopied, CannotBeCopied};
+ghost use Rattle.abc_scheme.specs.inner.Copies.{IsLater};
 
 use crate::copying::copy_behind;
 use crate::renaming::{places, renamed_demands, renamed_vars};
@@ -55,6 +56,7 @@ impl Scheme {
         ensures size { IfOk result (λ own. length given.now + length own.items ≡ length self.now.own) }
         ensures clash { result ≡ Err UnifyFault.Clash → CannotBeCopied self.now g.old given.now }
         ensures err { OnErr result (g.new ≡ g.old) }
+        ensures later { IsLater g.old g.new }
     {
         let before = g.mark();
         match copy_behind(alloc, g, self, given) {

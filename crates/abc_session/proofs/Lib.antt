@@ -3,6 +3,6 @@ mod Stops
 mod Broken
 mod Items
 mod Served
-mod Turns
 mod Places
+mod Turns
 mod Runs

@@ -1,6 +1,6 @@
 -- A run on a store: its opening, and its session.
 use Rattle.std.proofs.Common.{◌≡◌, ◌≤◌, ℕ, List, ◌++◌, length, inl, inr, ⊎_elim, sym, ◌∙◌, ap, subst, arith}
-use Rattle.std.specs.Prelude.{Result, Ok, Err}
+use Rattle.std.specs.Prelude.{Option, Some, Result, Ok, Err}
 use Rattle.abc_outside.specs.Outside.{Outside}
 use Rattle.abc_outside.specs.Stop.{Leaves, Passes, Extends}
 use Rattle.abc_outside.proofs.Leaves.{weaken, run_after, one_call, at_each}
@@ -11,6 +11,7 @@ use Rattle.abc_journal.specs.Journal.{BeginsQuiet, IsAsRead}
 use Rattle.abc_journal.proofs.Image.{settled_twice, settled_long}
 use Rattle.abc_journal.specs.declared.layout.Bounds.{Bounds}
 use Rattle.abc_turns.specs.Session.{Ending, over, quit, waiting, Session, replies, output, works, last_work}
+use Rattle.abc_words.specs.Words.{on_store, reading}
 use Rattle.abc_store.specs.Workspace.{Workspace}
 use Rattle.abc_store.specs.Opening.{Opens}
 use Rattle.abc_store.specs.Commit.{Work, Holds}
@@ -20,7 +21,7 @@ use Rattle.abc_turns.specs.Stops.{IsBetween, IsBroken, IsCutShort}
 use Rattle.abc_session.specs.Session.{session_of}
 use Rattle.abc_session.specs.Settled.{IsWaiting}
 use Rattle.abc_session.specs.Serving.{OpensTo, IsSessionPoint, IsStill}
-use Rattle.abc_session.specs.Run.{IsStart, HasEnded, IsComplete, StandsSo}
+use Rattle.abc_session.specs.Run.{store_in, store_named, IsStart, HasEnded, IsComplete, StandsSo}
 
 layout_settled : (image : List ℕ) → layout_of (settled_image image) ≡ layout_of image
 unfolding layout_of opened
@@ -65,14 +66,14 @@ same_input quit bound old mid new same h = h
 same_input waiting bound old mid new same h = h
 
 -- so is a complete run
-pub same_complete : (bounds : Bounds) (old mid new : Outside) → mid.image ≡ old.image → mid.left ≡ old.left → mid.said ≡ old.said → IsComplete bounds mid new → IsComplete bounds old new
-same_complete bounds old mid new same_image same_left same_said p = record {
+pub same_complete : (bounds : Bounds) (steps : ℕ) (old mid new : Outside) → mid.image ≡ old.image → mid.left ≡ old.left → mid.said ≡ old.said → IsComplete bounds steps mid new → IsComplete bounds steps old new
+same_complete bounds steps old mid new same_image same_left same_said p = record {
   start = p.start;
   is_start = subst (λ (i : List ℕ). IsStart i p.start) same_image p.is_start;
-  said = p.said ∙ ap (λ (t : List ℕ). t ++ output (session_of bounds p.start mid.left)) same_said ∙ ap (λ (l : List ℕ). old.said ++ output (session_of bounds p.start l)) same_left;
-  holds = subst (λ (l : List ℕ). Holds new.image (last_work p.start (session_of bounds p.start l))) same_left p.holds;
-  ended = subst (λ (l : List ℕ). HasEnded (session_of bounds p.start l).ending bounds.input old new) same_left
-      (same_input (session_of bounds p.start mid.left).ending bounds.input old mid new same_left p.ended);
+  said = p.said ∙ ap (λ (t : List ℕ). t ++ output (session_of bounds steps p.start mid.left)) same_said ∙ ap (λ (l : List ℕ). old.said ++ output (session_of bounds steps p.start l)) same_left;
+  holds = subst (λ (l : List ℕ). Holds new.image (last_work p.start (session_of bounds steps p.start l))) same_left p.holds;
+  ended = subst (λ (l : List ℕ). HasEnded (session_of bounds steps p.start l).ending bounds.input old new) same_left
+      (same_input (session_of bounds steps p.start mid.left).ending bounds.input old mid new same_left p.ended);
 }
 
 -- while the store is opened every stop leaves the work of the start
@@ -128,10 +129,18 @@ pub choice_now : {H : Type 0} (clock : H → ℕ) (stopped : H → ℕ → List 
 choice_now clock stopped old mid image work still start stop c s now = subst (λ (i : List ℕ). OpensTo i work) (sym (still c s (stop c s now))) start.kept
 
 -- what stands is so of the input and the said bytes at the start
-pub same_stands : (bounds : Bounds) (work : Work) (old mid new : Outside) (now : List ℕ → List ℕ → Type 0) (status : ℕ) → mid.left ≡ old.left → mid.said ≡ old.said → StandsSo bounds work mid new now status → StandsSo bounds work old new now status
-same_stands bounds work old mid new now status same_left same_said p = record {
-  waiting = λ is. same_choice (λ l t. IsWaiting bounds work l t new now) old.left mid.left old.said mid.said same_left same_said (p.waiting is);
-  between = λ is. same_choice (λ l t. IsBetween OpensTo (works work (session_of bounds work l)) (replies (session_of bounds work l)) t new.said now) old.left mid.left old.said mid.said same_left same_said (p.between is);
-  broken = λ is. same_choice (λ l t. IsBroken OpensTo (works work (session_of bounds work l)) (replies (session_of bounds work l)) t new.said now) old.left mid.left old.said mid.said same_left same_said (p.broken is);
-  cut_short = λ is. same_choice (λ l t. IsCutShort OpensTo (works work (session_of bounds work l)) (replies (session_of bounds work l)) t new.said now) old.left mid.left old.said mid.said same_left same_said (p.cut_short is);
+pub same_stands : (bounds : Bounds) (steps : ℕ) (work : Work) (old mid new : Outside) (now : List ℕ → List ℕ → Type 0) (status : ℕ) → mid.left ≡ old.left → mid.said ≡ old.said → StandsSo bounds steps work mid new now status → StandsSo bounds steps work old new now status
+same_stands bounds steps work old mid new now status same_left same_said p = record {
+  waiting = λ is. same_choice (λ l t. IsWaiting bounds steps work l t new now) old.left mid.left old.said mid.said same_left same_said (p.waiting is);
+  between = λ is. same_choice (λ l t. IsBetween OpensTo (works work (session_of bounds steps work l)) (replies (session_of bounds steps work l)) t new.said now) old.left mid.left old.said mid.said same_left same_said (p.between is);
+  broken = λ is. same_choice (λ l t. IsBroken OpensTo (works work (session_of bounds steps work l)) (replies (session_of bounds steps work l)) t new.said now) old.left mid.left old.said mid.said same_left same_said (p.broken is);
+  cut_short = λ is. same_choice (λ l t. IsCutShort OpensTo (works work (session_of bounds steps work l)) (replies (session_of bounds steps work l)) t new.said now) old.left mid.left old.said mid.said same_left same_said (p.cut_short is);
 }
+
+-- words name one store and one input
+pub names_one : (words : List (List ℕ)) (store : List ℕ) (input : Option (List ℕ)) (steps : ℕ) → reading words ≡ Some (on_store store input steps) → (named : List ℕ × Option (List ℕ)) → store_named words ≡ Some named
+    → ◌≡◌ {A = List ℕ × Option (List ℕ)} (store, input) named
+names_one words store input steps reads named is = by_some (sym (ap store_in reads) ∙ is)
+  where
+    by_some : Some (store, input) ≡ Some named → ◌≡◌ {A = List ℕ × Option (List ℕ)} (store, input) named
+    by_some e = cc

@@ -1,26 +1,29 @@
 -- Why a call stopped, from why its caller stops.
-use Rattle.std.proofs.Common.{◌≡◌, ◌≢◌, ◌⊎◌, ◌∙◌, ap, inl, inr}
-use Rattle.std.specs.Prelude.{Bool, Result, Err, IsErrOf}
-use Rattle.abc_session.specs.declared.serve.ServeStop.{ServeStop}
-use Rattle.abc_session.specs.declared.serve.ServeStop.TheVariants as item
+use Rattle.std.proofs.Common.{◌≡◌, ◌⊎◌, ◌∙◌, ap, inl, inr}
+use Rattle.std.specs.Prelude.{Result, Err, IsErrOf}
 use Rattle.abc_session.specs.declared.session.SessionStop.{SessionStop}
-use Rattle.abc_session.specs.declared.session.SessionStop.TheVariants as session
 
-abbrev pub ends : SessionStop → Result Bool SessionStop
-ends stop = Err stop
+-- a call that stops so
+abbrev pub fails : {A E : Type 0} → E → Result A E
+fails stop = Err stop
 
-ends_so : (d g : SessionStop) → ends d ≡ ends g → d ≡ g
-ends_so d g e = cc
+fails_so : {A E : Type 0} (d g : E) → fails {A = A} d ≡ fails g → d ≡ g
+fails_so d g e = cc
 
-pub stopped_by : {A : Type 0} (r : Result A ServeStop) (e f : ServeStop) (d g : SessionStop) → r ≡ Err e → (d ≡ g → e ≡ f) → ends d ≡ ends g → IsErrOf r f
-stopped_by r e f d g is back stops = is ∙ ap (λ x. Err x) (back (ends_so d g stops))
+module _ {A B E F : Type 0} (r : Result A E) (e : E) (d : F) (is : r ≡ Err e) where
+  pub stopped_by : (f : E) (g : F) → (d ≡ g → e ≡ f) → fails {A = B} d ≡ fails g → IsErrOf r f
+  stopped_by f g back stops = is ∙ ap (λ x. Err x) (back (fails_so d g stops))
 
--- an item stops for want of memory where its session stops without a fault of the store or the sink
-pub stopped_idle : {A : Type 0} (r : Result A ServeStop) (e : ServeStop) (d : SessionStop) → r ≡ Err e → d ≢ session.Input → d ≢ session.Long → (d ≡ session.Memory → e ≡ item.Memory)
-    → (ends d ≡ ends session.Input) ⊎ ((ends d ≡ ends session.Long) ⊎ (ends d ≡ ends session.Memory)) → IsErrOf r item.Memory
-stopped_idle r e d is not_input not_long back (inl h) = absurd (not_input (ends_so d session.Input h))
-stopped_idle r e d is not_input not_long back (inr (inl h)) = absurd (not_long (ends_so d session.Long h))
-stopped_idle r e d is not_input not_long back (inr (inr h)) = stopped_by r e item.Memory d session.Memory is back h
+  -- in one of two ways
+  pub stopped_either : (f f2 : E) (g g2 : F) → (d ≡ g → e ≡ f) → (d ≡ g2 → e ≡ f2) → (fails {A = B} d ≡ fails g) ⊎ (fails {A = B} d ≡ fails g2) → IsErrOf r f ⊎ IsErrOf r f2
+  stopped_either f f2 g g2 first second (inl h) = inl (stopped_by f g first h)
+  stopped_either f f2 g g2 first second (inr h) = inr (stopped_by f2 g2 second h)
+
+  -- in one of three ways
+  pub stopped_three : (f f2 f3 : E) (g g2 g3 : F) → (d ≡ g → e ≡ f) → (d ≡ g2 → e ≡ f2) → (d ≡ g3 → e ≡ f3)
+      → (fails {A = B} d ≡ fails g) ⊎ ((fails {A = B} d ≡ fails g2) ⊎ (fails {A = B} d ≡ fails g3)) → IsErrOf r f ⊎ (IsErrOf r f2 ⊎ IsErrOf r f3)
+  stopped_three f f2 f3 g g2 g3 first second third (inl h) = inl (stopped_by f g first h)
+  stopped_three f f2 f3 g g2 g3 first second third (inr h) = inr (stopped_either f2 f3 g2 g3 second third h)
 
 -- a session stops in one of two ways
 pub either_stop : {A : Type 0} (r : Result A SessionStop) (e f g : SessionStop) (P Q : Type 0) → r ≡ Err e → (P → e ≡ f) → (Q → e ≡ g) → P ⊎ Q → IsErrOf r f ⊎ IsErrOf r g

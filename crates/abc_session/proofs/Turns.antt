@@ -1,11 +1,11 @@
 -- The turns of a session, by what a stop leaves of them.
-use Rattle.std.proofs.Common.{◌≡◌, ◌⊎◌, inl, inr, ⊎_elim, ℕ, suc, ◌<◌, ◌≤◌, List, [], ◌∷◌, ◌++◌, length, take, sym, ◌∙◌, ap, subst, arith, length-append}
+use Rattle.std.proofs.Common.{◌≡◌, ◌⊎◌, inl, inr, ⊎_elim, ℕ, zero, suc, ◌≤◌, List, [], ◌++◌, take, refl, sym, ◌∙◌, ap, subst, arith, length-append}
 use Rattle.std.specs.List.{concat}
 use Rattle.std.proofs.lemmas.List.{append-nil, take-append-le}
 use Rattle.abc_outside.specs.Stop.{Leaves, IsQuiet}
 use Rattle.abc_outside.proofs.Leaves.{weaken, run_after}
 use Rattle.abc_journal.specs.declared.layout.Bounds.{Bounds}
-use Rattle.abc_turns.specs.Session.{whole_item, Session, then_turn, replies, works}
+use Rattle.abc_turns.specs.Session.{whole_item, came, wants, waiting, Session, ends, then_turn, on_came, replies, works}
 use Rattle.abc_turns.specs.Stops.{HasServed, IsBroken, IsCutShort, in_commit, in_saying}
 use Rattle.abc_turns.proofs.Points.{point_start, point_item, points_then}
 use Rattle.abc_turns.proofs.Endings.{now_leaves}
@@ -14,10 +14,13 @@ use Rattle.abc_num.specs.declared.lines.RawLine.{RawLine}
 use Rattle.abc_reader.specs.Items.{next_item}
 use Rattle.abc_store.specs.Commit.{Work, Holds}
 use Rattle.abc_store.proofs.Images.{opens_extended}
-use Rattle.abc_session.specs.Session.{outcome, session_from}
+use Rattle.abc_outcome.specs.Outcome.{Outcome}
+use Rattle.abc_outcome.specs.Answers.{behind_at}
+use Rattle.abc_session.specs.Session.{outcome, item_came, session_from}
 use Rattle.abc_session.specs.Serving.{OpensTo, IsSessionPoint, IsItemStop}
-use Rattle.abc_session.specs.inner.Place.{Place, input_ends, lines_left, session_at}
-use Rattle.abc_session.proofs.Items.{unless_quit, item_session}
+use Rattle.abc_session.specs.inner.Place.{Place, input_ends, lines_left, session_at, WasCut}
+use Rattle.abc_session.proofs.Items.{unless_quit, by_quit, came_session}
+use Rattle.abc_session.proofs.Places.{came_here}
 
 -- while an item is read nothing changes
 pub reading_stops : {H : Type 0} (clock : H → ℕ) (stopped : H → ℕ → List ℕ → List ℕ → Type 0) (old new : H) (work : Work) (image said : List ℕ) → Holds image work → IsQuiet clock stopped old image
@@ -33,65 +36,89 @@ pub then_stops : {H : Type 0} (clock : H → ℕ) (stopped : H → ℕ → List 
 then_stops clock stopped old mid new work work_mid turns left tells_said said said_mid so_far told before turn =
     points_then clock stopped OpensTo old mid new (works work turns) (replies turns) (works work_mid left) (replies left) tells_said said said_mid so_far told before turn
 
--- An item was read, and it is served.
-module _ {H : Type 0} (clock : H → ℕ) (stopped : H → ℕ → List ℕ → List ℕ → Type 0) (mid new : H) (bounds : Bounds) (k : ℕ) (place : Place) (item : List Line) (later : List RawLine) (said_mid said_now : List ℕ)
-    (is : next_item (input_ends place) (lines_left place) ≡ whole_item item later) (number : k ≡ suc place.served) (same : said_mid ≡ place.said) where
-  abbrev first : ℕ
-  first = suc place.served
+-- nothing of nothing
+take_none : (n : ℕ) → take {A = ℕ} n [] ≡ []
+take_none zero = refl
+take_none (suc n) = refl
 
-  abbrev reply : List ℕ
-  reply = (outcome bounds first place.work item).reply
+-- An item was read at a place, which led to another, and it is served there.
+module _ (bounds : Bounds) (steps : ℕ) (place mid : Place) (item : List Line) (is : next_item (input_ends place) (lines_left place) ≡ whole_item item (lines_left mid)) (ends_same : input_ends mid ≡ input_ends place)
+    (number : mid.served ≡ suc place.served) (kept : mid.work ≡ place.work) (same : mid.said ≡ place.said) where
+  abbrev out : Outcome
+  out = outcome bounds steps mid.served mid.work item (behind_at mid.reading mid.left)
 
-  abbrev work_then : Work
-  work_then = (outcome bounds first place.work item).work
+  abbrev later : Work → List RawLine → Session Work
+  later v rest = session_from bounds steps (input_ends place) (suc (suc place.served)) v rest
 
-  abbrev rest : Session Work
-  rest = unless_quit (outcome bounds first place.work item).quits (session_from bounds (input_ends place) (suc first) work_then later)
+  -- the session by what the item comes to
+  session_is : (o : Outcome) → out ≡ o → session_at bounds steps place ≡ on_came o later
+  session_is o comes =
+      came_session bounds steps (input_ends place) (suc place.served) place.work (lines_left place) item (lines_left mid) is o
+      (ap (λ n. item_came bounds steps (input_ends place) n place.work item (lines_left mid)) (sym number)
+      ∙ ap (λ w. item_came bounds steps (input_ends place) mid.served w item (lines_left mid)) (sym kept)
+      ∙ ap (λ e. item_came bounds steps e mid.served mid.work item (lines_left mid)) (sym ends_same) ∙ comes)
 
-  turns : session_at bounds place ≡ then_turn reply work_then rest
-  turns = item_session bounds (input_ends place) first place.work (lines_left place) item later is
+  -- a stop in the item is one in the session
+  point_by : (o : Outcome) (s : Session Work) → s ≡ on_came o later → (c t : List ℕ) → IsItemStop place.work o place.said c t → IsSessionPoint place.work s place.said c t
+  point_by (came reply v rest quits) s is c t stop =
+      subst (λ x. IsSessionPoint place.work x place.said c t) (sym (is ∙ by_quit reply v rest quits later))
+      (point_item OpensTo (works place.work (then_turn reply v (unless_quit quits (later v rest)))) reply (replies (unless_quit quits (later v rest))) place.said c t stop)
+  point_by wants s is c t (in_commit p) =
+      subst (λ x. IsSessionPoint place.work x place.said c t) (sym is)
+      (point_start OpensTo (works place.work (ends waiting)) [] place.said c t p.nothing_said (⊎_elim (λ old. old) (λ new. new) p.image))
+  point_by wants s is c t (in_saying p) =
+      subst (λ x. IsSessionPoint place.work x place.said c t) (sym is)
+      (point_start OpensTo (works place.work (ends waiting)) [] place.said c t (p.front ∙ ap (λ (l : List ℕ). place.said ++ l) (take_none p.count) ∙ append-nil place.said) p.image)
 
-  -- its stops are those of the session
-  pub item_stops : (old : H) → Leaves clock stopped old mid (IsSessionPoint place.work (session_at bounds place) place.said) → Leaves clock stopped mid new (IsItemStop bounds k place.work item said_mid)
-      → Leaves clock stopped old new (IsSessionPoint place.work (session_at bounds place) place.said)
-  item_stops old reading serving =
-      run_after clock stopped old mid new _ _ reading serving
-      (λ c s p. subst (λ t. IsSessionPoint place.work t place.said c s) (sym turns)
-      (point_item OpensTo (works place.work (then_turn reply work_then rest)) reply (replies rest) place.said c s
-      (subst (λ t. IsItemStop bounds first place.work item t c s) same (subst (λ n. IsItemStop bounds n place.work item said_mid c s) number p))))
+  stop_point : (c t : List ℕ) → IsItemStop mid.work out mid.said c t → IsSessionPoint place.work (session_at bounds steps place) place.said c t
+  stop_point c t stop = point_by out (session_at bounds steps place) (session_is out refl) c t (subst (λ w. IsItemStop w out place.said c t) kept (subst (λ l. IsItemStop mid.work out l c t) same stop))
 
-  -- the store failed in it
-  pub item_broken : ((host : H) (earlier late : ℕ) (c s : List ℕ) → earlier ≤ late → stopped host late c s → stopped host earlier c s)
-      → ((c s : List ℕ) → stopped mid (clock mid) c s → OpensTo c place.work) → Leaves clock stopped mid new (IsItemStop bounds k place.work item said_mid) → said_now ≡ said_mid
-      → IsBroken OpensTo (works place.work (session_at bounds place)) (replies (session_at bounds place)) place.said said_now (stopped new (clock new))
-  item_broken since opens leaves unsaid = subst (λ t. IsBroken OpensTo (works place.work t) (replies t) place.said said_now (stopped new (clock new))) (sym turns) (record {
-    k = 0;
-    among = omega arith;
-    said_is = unsaid ∙ same ∙ sym (append-nil place.said);
-    image = λ c s stop. ⊎_elim (λ old. inl (opens c s old)) (λ p. by_stop c s p) (now_leaves clock stopped mid new _ since leaves c s stop);
-  })
+  -- the image opens to the work before the item, or to the one after it
+  opens_by : (o : Outcome) (s : Session Work) → s ≡ on_came o later → (c t : List ℕ) → IsItemStop place.work o place.said c t → OpensTo c (works place.work s 0) ⊎ OpensTo c (works place.work s 1)
+  opens_by (came reply v rest quits) s is c t stop = subst (λ x. OpensTo c (works place.work x 0) ⊎ OpensTo c (works place.work x 1)) (sym (is ∙ by_quit reply v rest quits later)) (by_stop stop)
     where
-      done : (c : List ℕ) → OpensTo c (outcome bounds k place.work item).work → OpensTo c work_then
-      done c opens = subst (λ n. OpensTo c (outcome bounds n place.work item).work) number opens
+      by_stop : IsItemStop place.work (came reply v rest quits) place.said c t → OpensTo c place.work ⊎ OpensTo c v
+      by_stop (in_commit p) = p.image
+      by_stop (in_saying p) = inr p.image
+  opens_by wants s is c t (in_commit p) = inl (⊎_elim (λ old. old) (λ new. new) p.image)
+  opens_by wants s is c t (in_saying p) = inl p.image
 
-      by_stop : (c s : List ℕ) → IsItemStop bounds k place.work item said_mid c s → OpensTo c place.work ⊎ OpensTo c work_then
-      by_stop c s (in_commit p) = ⊎_elim (λ old. inl old) (λ more. inr (done c more)) p.image
-      by_stop c s (in_saying p) = inr (done c p.image)
+  stop_opens : (c t : List ℕ) → IsItemStop mid.work out mid.said c t → OpensTo c (works place.work (session_at bounds steps place) 0) ⊎ OpensTo c (works place.work (session_at bounds steps place) 1)
+  stop_opens c t stop = opens_by out (session_at bounds steps place) (session_is out refl) c t (subst (λ w. IsItemStop w out place.said c t) kept (subst (λ l. IsItemStop mid.work out l c t) same stop))
+
+  module _ {H : Type 0} (clock : H → ℕ) (stopped : H → ℕ → List ℕ → List ℕ → Type 0) (host_mid host_new : H) where
+    -- its stops are those of the session
+    pub item_stops : (old : H) → Leaves clock stopped old host_mid (IsSessionPoint place.work (session_at bounds steps place) place.said) → Leaves clock stopped host_mid host_new (IsItemStop mid.work out mid.said)
+        → Leaves clock stopped old host_new (IsSessionPoint place.work (session_at bounds steps place) place.said)
+    item_stops old reading serving = run_after clock stopped old host_mid host_new _ _ reading serving stop_point
+
+    -- the store failed in it
+    pub item_broken : ((host : H) (earlier late : ℕ) (c s : List ℕ) → earlier ≤ late → stopped host late c s → stopped host earlier c s)
+        → ((c s : List ℕ) → stopped host_mid (clock host_mid) c s → OpensTo c place.work) → Leaves clock stopped host_mid host_new (IsItemStop mid.work out mid.said) → (said_now : List ℕ) → said_now ≡ mid.said
+        → IsBroken OpensTo (works place.work (session_at bounds steps place)) (replies (session_at bounds steps place)) place.said said_now (stopped host_new (clock host_new))
+    item_broken since opens leaves said_now unsaid = record {
+      k = 0;
+      among = omega arith;
+      said_is = unsaid ∙ same ∙ sym (append-nil place.said);
+      image = λ c s stop. ⊎_elim (λ old. inl (opens c s old)) (λ p. stop_opens c s p) (now_leaves clock stopped host_mid host_new _ since leaves c s stop);
+    }
 
   -- the sink failed in its reply
-  pub item_cut : (n : ℕ) → n < length (outcome bounds k place.work item).reply → said_now ≡ said_mid ++ take n (outcome bounds k place.work item).reply → (work_new : Work) → work_new ≡ (outcome bounds k place.work item).work
-      → ((c s : List ℕ) → stopped new (clock new) c s → OpensTo c work_new)
-      → IsCutShort OpensTo (works place.work (session_at bounds place)) (replies (session_at bounds place)) place.said said_now (stopped new (clock new))
-  item_cut n short front work_new kept opens =
-      let reply_is : (outcome bounds k place.work item).reply ≡ reply = ap (λ m. (outcome bounds m place.work item).reply) number in
-      let less : n < length reply = omega (arith, short, ap length reply_is) in
-      subst (λ t. IsCutShort OpensTo (works place.work t) (replies t) place.said said_now (stopped new (clock new))) (sym turns) (record {
+  pub item_cut : (new : Place) (now : List ℕ → List ℕ → Type 0) → WasCut (outcome bounds steps mid.served mid.work item) mid new → ((c s : List ℕ) → now c s → OpensTo c new.work)
+      → IsCutShort OpensTo (works place.work (session_at bounds steps place)) (replies (session_at bounds steps place)) place.said new.said now
+  item_cut new now cut opens =
+      let reply = cut.answer.reply in
+      let rest = unless_quit cut.answer.quit (later new.work (lines_left new)) in
+      let comes = came_here (outcome bounds steps mid.served mid.work item) mid.reading new.reading mid.left new.left new.work cut.answer cut.answered in
+      let turns : session_at bounds steps place ≡ then_turn reply new.work rest =
+      session_is (came reply new.work (lines_left new) cut.answer.quit) comes ∙ by_quit reply new.work (lines_left new) cut.answer.quit later in
+      subst (λ t. IsCutShort OpensTo (works place.work t) (replies t) place.said new.said now) (sym turns) (record {
         k = 0;
         among = omega arith;
-        count = n;
-        said_is = front ∙ ap (λ (l : List ℕ). l ++ take n (outcome bounds k place.work item).reply) same ∙ ap (λ (l : List ℕ). place.said ++ take n l) reply_is
-            ∙ ap (λ (l : List ℕ). place.said ++ l) (sym (take-append-le n reply (concat (replies rest)) (omega (arith, less))));
+        count = cut.count;
+        said_is = cut.said_is ∙ ap (λ (l : List ℕ). l ++ take cut.count reply) same
+            ∙ ap (λ (l : List ℕ). place.said ++ l) (sym (take-append-le cut.count reply (concat (replies rest)) (omega (arith, cut.short))));
         begun = omega arith;
-        cut = omega (arith, less, length-append reply []);
-        image = λ c s stop. subst (λ m. OpensTo c (outcome bounds m place.work item).work) number (subst (λ w. OpensTo c w) kept (opens c s stop));
+        cut = omega (arith, cut.short, length-append reply []);
+        image = opens;
       })

@@ -1,5 +1,7 @@
 -- What a run answers.
-use Rattle.std.specs.Prelude.{◌≡◌, ◌⊎◌, ◌≤◌, ◌<◌, ◌↔◌, ℕ, suc, List, [], ◌∷◌, ◌++◌, length, Option, None, Some, Ok, Err, if◌then◌else◌, ◌==◌, get_or}
+use Rattle.std.specs.Prelude.{◌≡◌, ◌⊎◌, ◌≤◌, ◌<◌, ℕ, suc, List, [], ◌∷◌, ◌++◌, length, Option, None, Some, Ok, Err}
+use Rattle.abc_num.specs.declared.limits.TheConstants.{DEFAULT_STEPS}
+use Rattle.abc_words.specs.Words.{Asked as Request, on_store, on_made, reading}
 use Rattle.abc_outside.specs.Outside.{Outside, Rose, RoseByOne, IsFaultless}
 use Rattle.abc_outside.specs.Stop.{Now}
 use Rattle.abc_journal.specs.declared.layout.Bounds.{Bounds}
@@ -15,10 +17,23 @@ use Rattle.abc_session.specs.Settled.{AsksSettled, IsWaiting}
 use Rattle.abc_session.specs.Serving.{OpensTo, IsSessionPoint, IsStill, NoneFell, OnlyInputFailed, OnlyStoreFailed, OnlySinkFailed}
 use Rattle.abc_session.specs.declared.status.TheConstants.{COMPLETE, USAGE, INPUT_FAULT, STORE_FAULT, SINK_FAULT, NOT_A_STORE, MEMORY, INPUT_TOO_LONG}
 
--- the store that the words name: one word, which does not begin with a dash
-abbrev pub store_named : List (List ℕ) → Option (List ℕ)
-store_named (word ∷ []) = if get_or word 0 0 == 45 then None else Some word
-store_named _ = None
+-- the store that is asked for, and the file of its input if one is
+abbrev pub store_in : Option Request → Option (List ℕ × Option (List ℕ))
+store_in (Some (on_store store input steps)) = Some (store, input)
+store_in _ = None
+
+-- the steps that an item may take
+abbrev pub steps_in : Option Request → ℕ
+steps_in (Some (on_store store input steps)) = steps
+steps_in (Some (on_made count steps)) = steps
+steps_in None = DEFAULT_STEPS
+
+-- the store, the file of its input and the steps that the words name
+abbrev pub store_named : List (List ℕ) → Option (List ℕ × Option (List ℕ))
+store_named words = store_in (reading words)
+
+abbrev pub steps_named : List (List ℕ) → ℕ
+steps_named words = steps_in (reading words)
 
 -- the work that a session starts with: what the image opens to, with the layout of the image as it is then settled
 pub record IsStart (image : List ℕ) (work : Work) : Type 0 where
@@ -32,12 +47,12 @@ HasEnded quit bound old new = Unit {0}
 HasEnded waiting bound old new = ⊥
 
 -- A complete run: it said the session's whole output, the image holds the last work, and the session ended.
-pub record IsComplete (bounds : Bounds) (old new : Outside) : Type 0 where
+pub record IsComplete (bounds : Bounds) (steps : ℕ) (old new : Outside) : Type 0 where
   pub start : Work
   pub is_start : IsStart old.image start
-  pub said : new.said ≡ old.said ++ output (session_of bounds start old.left)
-  pub holds : Holds new.image (last_work start (session_of bounds start old.left))
-  pub ended : HasEnded (session_of bounds start old.left).ending bounds.input old new
+  pub said : new.said ≡ old.said ++ output (session_of bounds steps start old.left)
+  pub holds : Holds new.image (last_work start (session_of bounds steps start old.left))
+  pub ended : HasEnded (session_of bounds steps start old.left).ending bounds.input old new
 
 -- the image, the input, what was said and what was asked are as before
 pub record IsUntouched (old new : Outside) : Type 0 where
@@ -46,9 +61,9 @@ pub record IsUntouched (old new : Outside) : Type 0 where
   pub said : new.said ≡ old.said
   pub asked : new.asked ≡ old.asked
 
--- one choice more: this store, and standard input
-abbrev pub chose : List ℕ → List (List ℕ × Option (List ℕ)) → List (List ℕ × Option (List ℕ))
-chose store chosen = chosen ++ (store, None) ∷ []
+-- one choice more: this store, and this file or standard input
+abbrev pub chose : List ℕ × Option (List ℕ) → List (List ℕ × Option (List ℕ)) → List (List ℕ × Option (List ℕ))
+chose named chosen = chosen ++ named ∷ []
 
 -- one of the statuses of a run on a store
 abbrev pub IsRunStatus : ℕ → Type 0
@@ -79,41 +94,50 @@ pub record HasCause (tells_image tells_input : Type 0) (bounds : Bounds) (old ne
   pub too_long_input : tells_input → status ≡ INPUT_TOO_LONG → bounds.input ≤ length old.left
   pub none_fell : NoneFell old new
 
+-- The input could not be opened: nothing was taken or said, and a stop now leaves an image that opens to the work of the start.
+pub record IsNotBegun (start : Work) (old new : Outside) (now : List ℕ → List ℕ → Type 0) (status : ℕ) : Type 0 where
+  pub input_fault : status ≡ INPUT_FAULT
+  pub chosen : new.chosen ≡ old.chosen
+  pub taken : new.taken ≡ old.taken
+  pub said : new.said ≡ old.said
+  pub image : (c s : List ℕ) → now c s → OpensTo c start
+
 -- What stands after each status but 0, 2 and 6, of a session that started with this work.
-pub record StandsSo (bounds : Bounds) (start : Work) (old new : Outside) (now : List ℕ → List ℕ → Type 0) (status : ℕ) : Type 0 where
-  pub waiting : ((status ≡ INPUT_FAULT) ⊎ (status ≡ INPUT_TOO_LONG)) → IsWaiting bounds start old.left old.said new now
-  pub between : status ≡ MEMORY → IsBetween OpensTo (works start (session_of bounds start old.left)) (replies (session_of bounds start old.left)) old.said new.said now
-  pub broken : status ≡ STORE_FAULT → IsBroken OpensTo (works start (session_of bounds start old.left)) (replies (session_of bounds start old.left)) old.said new.said now
-  pub cut_short : status ≡ SINK_FAULT → IsCutShort OpensTo (works start (session_of bounds start old.left)) (replies (session_of bounds start old.left)) old.said new.said now
+pub record StandsSo (bounds : Bounds) (steps : ℕ) (start : Work) (old new : Outside) (now : List ℕ → List ℕ → Type 0) (status : ℕ) : Type 0 where
+  pub waiting : ((status ≡ INPUT_FAULT) ⊎ (status ≡ INPUT_TOO_LONG)) → IsWaiting bounds steps start old.left old.said new now
+  pub between : status ≡ MEMORY → IsBetween OpensTo (works start (session_of bounds steps start old.left)) (replies (session_of bounds steps start old.left)) old.said new.said now
+  pub broken : status ≡ STORE_FAULT → IsBroken OpensTo (works start (session_of bounds steps start old.left)) (replies (session_of bounds steps start old.left)) old.said new.said now
+  pub cut_short : status ≡ SINK_FAULT → IsCutShort OpensTo (works start (session_of bounds steps start old.left)) (replies (session_of bounds steps start old.left)) old.said new.said now
 
 -- A run with these words, from one state of a host to another, and its status. What the host tells, its clock and its stops are
 -- those of the trait Host; IsStill says that nothing is pending when the run begins.
 pub record IsRun {H : Type 0} (tells_chosen tells_image tells_input tells_said : Type 0) (tell : H → Outside) (clock : H → ℕ) (stopped : H → ℕ → List ℕ → List ℕ → Type 0)
-    (bounds : Bounds) (words : List (List ℕ)) (old new : H) (status : ℕ) : Type 0 where
+    (bounds : Bounds) (words : List (List ℕ)) (steps : ℕ) (old new : H) (status : ℕ) : Type 0 where
   -- A complete run.
-  pub complete : tells_image → tells_said → tells_input → status ≡ COMPLETE → IsComplete bounds (tell old) (tell new)
+  pub complete : tells_image → tells_said → tells_input → status ≡ COMPLETE → IsComplete bounds steps (tell old) (tell new)
   -- When each other status comes. Where the bound on the input is reached, the session waits for more.
   pub status_is : IsStatus status
-  pub usage : (status ≡ USAGE) ↔ (store_named words ≡ None)
+  pub usage : status ≡ USAGE → store_named words ≡ None
+  pub none_named : store_named words ≡ None → (status ≡ USAGE) ⊎ (status ≡ MEMORY)
   pub cause : HasCause tells_image tells_input bounds (tell old) (tell new) status
   pub refused : tells_image → (at : ℕ) → Opens (tell old).image (Err at) → (status ≡ NOT_A_STORE) ⊎ (status ≡ USAGE) ⊎ (status ≡ INPUT_FAULT) ⊎ (status ≡ STORE_FAULT) ⊎ (status ≡ MEMORY)
-  pub waits : tells_image → tells_input → (work : Work) → IsStart (tell old).image work → status ≡ INPUT_TOO_LONG → (session_of bounds work (tell old).left).ending ≡ waiting
+  pub waits : tells_image → tells_input → (work : Work) → IsStart (tell old).image work → status ≡ INPUT_TOO_LONG → (session_of bounds steps work (tell old).left).ending ≡ waiting
   pub most_taken : ((tell new).taken ≤ bounds.input) ⊎ ((tell new).taken ≡ (tell old).taken)
   pub completeness : tells_image → (kept : Workspace) → Opens (tell old).image (Ok kept) → NoneRose (tell old) (tell new) → (status ≡ COMPLETE) ⊎ (status ≡ USAGE) ⊎ (status ≡ INPUT_TOO_LONG) ⊎ (status ≡ MEMORY)
   -- What stays, and what was chosen.
   pub usage_nothing : status ≡ USAGE → new ≡ old
   pub untouched : tells_image → (at : ℕ) → Opens (tell old).image (Err at) → IsUntouched (tell old) (tell new)
   pub untouched_stops : tells_image → IsStill clock stopped old (tell old).image → (at : ℕ) → Opens (tell old).image (Err at) → (c s : List ℕ) → stopped new (clock old) c s → c ≡ (tell old).image
-  pub chosen : tells_chosen → (store : List ℕ) → store_named words ≡ Some store
-      → ((tell new).chosen ≡ chose store (tell old).chosen) ⊎ (((tell new).chosen ≡ (tell old).chosen) × ((status ≡ INPUT_FAULT) ⊎ (status ≡ STORE_FAULT) ⊎ (status ≡ MEMORY)))
+  pub chosen : tells_chosen → (named : List ℕ × Option (List ℕ)) → store_named words ≡ Some named
+      → ((tell new).chosen ≡ chose named (tell old).chosen) ⊎ (((tell new).chosen ≡ (tell old).chosen) × ((status ≡ INPUT_FAULT) ⊎ (status ≡ STORE_FAULT) ⊎ (status ≡ MEMORY)))
   -- What was asked for, and what stands after each status but 0, 2 and 6.
-  pub asked : tells_image → tells_said → tells_input → (work : Work) → IsStart (tell old).image work → Asked (AsksSettled bounds work (tell old).left (length (tell old).said)) (tell old).asked (tell new).asked
+  pub asked : tells_image → tells_said → tells_input → (work : Work) → IsStart (tell old).image work → Asked (AsksSettled bounds steps work (tell old).left (length (tell old).said)) (tell old).asked (tell new).asked
   pub asks_rise : tells_said → AskedRising 0 (suc (tell new).taken) (tell old).asked (tell new).asked
   pub stands : tells_image → tells_said → tells_input → IsStill clock stopped old (tell old).image → (work : Work) → IsStart (tell old).image work
-      → StandsSo bounds work (tell old) (tell new) (Now clock stopped new) status
+      → IsNotBegun work (tell old) (tell new) (Now clock stopped new) status ⊎ StandsSo bounds steps work (tell old) (tell new) (Now clock stopped new) status
   -- At every moment of the run: what was said is a front of the session's output, and every image that a stop may leave
   -- opens to the workspace after some of the items, which are all of whose reply a byte was said.
   pub headline : tells_image → tells_said → tells_input → IsStill clock stopped old (tell old).image → (work : Work) → IsStart (tell old).image work
-      → (c s : List ℕ) → stopped new (clock old) c s → IsSessionPoint work (session_of bounds work (tell old).left) (tell old).said c s
+      → (c s : List ℕ) → stopped new (clock old) c s → IsSessionPoint work (session_of bounds steps work (tell old).left) (tell old).said c s
   pub last : tells_image → tells_said → tells_input → IsStill clock stopped old (tell old).image → status ≡ COMPLETE → (work : Work) → IsStart (tell old).image work
-      → (c s : List ℕ) → stopped new (clock new) c s → OpensTo c (last_work work (session_of bounds work (tell old).left))
+      → (c s : List ℕ) → stopped new (clock new) c s → OpensTo c (last_work work (session_of bounds steps work (tell old).left))

@@ -1,13 +1,12 @@
 -- What holds while a session is served.
-use Rattle.std.specs.Prelude.{◌≡◌, ◌≤◌, ℕ, List}
-use Rattle.abc_num.specs.declared.lines.Line.{Line}
+use Rattle.std.specs.Prelude.{◌≡◌, ◌≤◌, ℕ, List, []}
 use Rattle.abc_outside.specs.Outside.{Outside}
-use Rattle.abc_turns.specs.Session.{Session, replies, works}
+use Rattle.abc_turns.specs.Session.{Session, came, wants, replies, works}
 use Rattle.abc_turns.specs.Stops.{IsPoint, IsInItem}
-use Rattle.abc_journal.specs.declared.layout.Bounds.{Bounds}
 use Rattle.abc_store.specs.Commit.{Work}
 use Rattle.abc_store.specs.Opening as store
-use Rattle.abc_session.specs.Session.{outcome}
+use Rattle.abc_outcome.specs.Outcome.{Outcome}
+use Rattle.abc_outcome.specs.Answers.{work_in}
 
 -- the image opens to the workspace of this work
 abbrev pub OpensTo : List ℕ → Work → Type 0
@@ -17,19 +16,14 @@ OpensTo image work = store.OpensTo image work.kept
 abbrev pub IsSessionPoint : Work → Session Work → List ℕ → List ℕ → List ℕ → Type 0
 IsSessionPoint start turns said c s = IsPoint OpensTo (works start turns) (replies turns) said c s
 
--- a stop while one item is served
-abbrev pub IsItemStop : Bounds → ℕ → Work → List Line → List ℕ → List ℕ → List ℕ → Type 0
-IsItemStop bounds k work item said c s = IsInItem OpensTo work (outcome bounds k work item).work (outcome bounds k work item).reply said c s
+-- the reply of an item; one that wants a line has none yet
+abbrev pub reply_in : Outcome → List ℕ
+reply_in (came reply work left quits) = reply
+reply_in wants = []
 
--- an item leaves the input alone, and no count falls
-pub record KeepsInput (old new : Outside) : Type 0 where
-  pub chosen : new.chosen ≡ old.chosen
-  pub taken : new.taken ≡ old.taken
-  pub left : new.left ≡ old.left
-  pub asked : new.asked ≡ old.asked
-  pub input_faults : new.input_faults ≡ old.input_faults
-  pub store_faults : old.store_faults ≤ new.store_faults
-  pub sink_faults : old.sink_faults ≤ new.sink_faults
+-- a stop while an item that comes to this is served
+abbrev pub IsItemStop : Work → Outcome → List ℕ → List ℕ → List ℕ → Type 0
+IsItemStop work out said c s = IsInItem OpensTo work (work_in work out) (reply_in out) said c s
 
 -- no count of faults falls
 pub record NoneFell (old new : Outside) : Type 0 where

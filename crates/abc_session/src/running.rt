@@ -1,16 +1,17 @@
 //! The run: words in, a status out.
-ghost use Rattle.std.specs.Prelude.{◌≡◌, ◌≢◌, ◌⊎◌, ◌≤◌, suc, ℕ, map, length, List, Err, option_map};
+ghost use Rattle.std.specs.Prelude.{◌≡◌, ◌≢◌, ◌⊎◌, ◌≤◌, suc, ℕ, map, length, List, Err, Some, option_map};
 ghost use Rattle.abc_outside.specs.Stop.{Leaves, IsQuiet, Now};
 ghost use Rattle.abc_journal.specs.Journal.{BeginsQuiet};
 ghost use Rattle.abc_turns.specs.Session.{waiting};
 ghost use Rattle.abc_reader.specs.Asking.{Asked, AskedRising};
 ghost use Rattle.abc_store.specs.Opening.{Opens};
 ghost use Rattle.abc_store.specs.Commit.{Work};
+ghost use Rattle.abc_words.specs.Words.{on_store, reading};
 ghost use Rattle.abc_session.specs.Session.{session_of};
 ghost use Rattle.abc_session.specs.Serving.{IsStill, IsSessionPoint};
 ghost use Rattle.abc_session.specs.Product.{product_bounds};
 ghost use Rattle.abc_session.specs.Settled.{AsksSettled};
-ghost use Rattle.abc_session.specs.Run.{store_named, IsStart, IsComplete, IsUntouched, IsRunStatus, HasCause, StandsSo, IsRun};
+ghost use Rattle.abc_session.specs.Run.{steps_named, IsStart, IsComplete, IsUntouched, IsRunStatus, HasCause, StandsSo, IsRun};
 
 use crate::session::{SessionStop, serve_all};
 use crate::status::{
@@ -21,17 +22,8 @@ use abc_num::limits::{CHECKPOINT_BOUND, IMAGE_BOUND, INPUT_BOUND};
 use abc_outside::{ChooseFault, Host};
 use abc_store::Store;
 use abc_store::laws::images_open_to_one;
+use abc_words::{Request, WordsFault, read_words};
 use std::alloc::Global;
-
-/// The store that the words name.
-fn store_of<'a>(words: &[&'a str]) -> Option<&'a str>
-    ensures { option_map (λ store. store.now) result ≡ store_named (map (λ word. word.now) words.now) }
-{
-    match words {
-        [store] if store.as_bytes().first() != Some(&b'-') => Some(*store),
-        _ => None,
-    }
-}
 
 /// The status for this end of a session.
 fn status_of(stop: SessionStop) -> u8
@@ -52,27 +44,27 @@ fn status_of(stop: SessionStop) -> u8
 }
 
 /// Opens the store that was chosen, and serves the items of the input.
-fn run_store<H: Host>(alloc: Global, host: &mut H, b: &Bounds) -> u8
+fn run_store<H: Host>(alloc: Global, host: &mut H, b: &Bounds, steps: u64) -> u8
     requires { (H.now host.old).taken ≡ 0 }
 
-    ensures complete { H.tells_image → H.tells_said → H.tells_input → result ≡ COMPLETE → IsComplete b.now (H.now host.old) (H.now host.new) }
+    ensures complete { H.tells_image → H.tells_said → H.tells_input → result ≡ COMPLETE → IsComplete b.now steps (H.now host.old) (H.now host.new) }
     ensures status { IsRunStatus result }
     ensures cause { HasCause H.tells_image H.tells_input b.now (H.now host.old) (H.now host.new) result }
     ensures refused { H.tells_image → (at : ℕ) → Opens (H.now host.old).image (Err at) → (result ≡ NOT_A_STORE) ⊎ (result ≡ STORE_FAULT) ⊎ (result ≡ MEMORY) }
-    ensures waits { H.tells_image → H.tells_input → (work : Work) → IsStart (H.now host.old).image work → result ≡ INPUT_TOO_LONG → (session_of b.now work (H.now host.old).left).ending ≡ waiting }
+    ensures waits { H.tells_image → H.tells_input → (work : Work) → IsStart (H.now host.old).image work → result ≡ INPUT_TOO_LONG → (session_of b.now steps work (H.now host.old).left).ending ≡ waiting }
     ensures most_taken { (H.now host.new).taken ≤ b.now.input }
     ensures untouched { H.tells_image → (at : ℕ) → Opens (H.now host.old).image (Err at) → IsUntouched (H.now host.old) (H.now host.new) }
     ensures untouched_stops { H.tells_image → (at : ℕ) → Opens (H.now host.old).image (Err at) → Leaves H.clock H.stopped host.old host.new (H.stopped host.old (H.clock host.old)) }
     ensures chosen { (H.now host.new).chosen ≡ (H.now host.old).chosen }
     ensures asked { H.tells_image → H.tells_said → H.tells_input → (work : Work) → IsStart (H.now host.old).image work
-        → Asked (AsksSettled b.now work (H.now host.old).left (length (H.now host.old).said)) (H.now host.old).asked (H.now host.new).asked }
+        → Asked (AsksSettled b.now steps work (H.now host.old).left (length (H.now host.old).said)) (H.now host.old).asked (H.now host.new).asked }
     ensures asks_rise { H.tells_said → AskedRising 0 (suc (H.now host.new).taken) (H.now host.old).asked (H.now host.new).asked }
     ensures stands { H.tells_image → H.tells_said → H.tells_input → BeginsQuiet H.clock H.stopped host.old (H.now host.old).image
-        → (work : Work) → IsStart (H.now host.old).image work → StandsSo b.now work (H.now host.old) (H.now host.new) (Now H.clock H.stopped host.new) result }
+        → (work : Work) → IsStart (H.now host.old).image work → StandsSo b.now steps work (H.now host.old) (H.now host.new) (Now H.clock H.stopped host.new) result }
 
     ensures stops { H.tells_image → H.tells_said → H.tells_input → BeginsQuiet H.clock H.stopped host.old (H.now host.old).image
         → (work : Work) → IsStart (H.now host.old).image work
-        → Leaves H.clock H.stopped host.old host.new (IsSessionPoint work (session_of b.now work (H.now host.old).left) (H.now host.old).said) }
+        → Leaves H.clock H.stopped host.old host.new (IsSessionPoint work (session_of b.now steps work (H.now host.old).left) (H.now host.old).said) }
     ensures quiet { H.tells_image → BeginsQuiet H.clock H.stopped host.old (H.now host.old).image
         → result ≡ COMPLETE → IsQuiet H.clock H.stopped host.new (H.now host.new).image }
 {
@@ -83,25 +75,48 @@ fn run_store<H: Host>(alloc: Global, host: &mut H, b: &Bounds) -> u8
         Err(BeginFault::NotAStore { .. }) => return NOT_A_STORE,
         Err(BeginFault::Memory) => return MEMORY,
     };
-    match serve_all(alloc, &mut store, host, b.input) {
+    match serve_all(alloc, &mut store, host, b.input, steps) {
         Ok(()) => COMPLETE,
         Err(stop) => status_of(stop),
     }
 }
 
-/// Runs with these bounds: reads the words, chooses and opens the store, serves the items of the input one after the
-/// other, and says their replies. The answer is the status.
-pub fn run_within<H: Host>(alloc: Global, words: &[&str], host: &mut H, b: &Bounds) -> u8
-    ensures run { IsRun H.tells_chosen H.tells_image H.tells_input H.tells_said H.now H.clock H.stopped b.now (map (λ word. word.now) words.now) host.old host.new result }
+/// Chooses the store and the input that were named, and runs on them. An item may take so many steps.
+fn run_named<H: Host>(
+    alloc: Global,
+    store: &str,
+    input: Option<&str>,
+    steps: u64,
+    host: &mut H,
+    b: &Bounds,
+) -> u8
+    ensures run { (words : List (List ℕ)) → reading words ≡ Some (on_store store.now (option_map (λ name. name.now) input.entry) steps)
+        → IsRun H.tells_chosen H.tells_image H.tells_input H.tells_said H.now H.clock H.stopped b.now words steps host.old host.new result }
 {
     images_open_to_one();
-    let Some(store) = store_of(words) else {
-        return USAGE;
-    };
-    match host.choose(store, None) {
-        Ok(()) => run_store(alloc, host, b),
+    match host.choose(store, input) {
+        Ok(()) => run_store(alloc, host, b, steps),
         Err(ChooseFault::Store) => STORE_FAULT,
         Err(ChooseFault::Input) => INPUT_FAULT,
+    }
+}
+
+/// Runs with these bounds: reads the words, chooses and opens the store and the input, serves the items of the input one
+/// after the other, and says their replies. The answer is the status.
+pub fn run_within<H: Host>(alloc: Global, words: &[&str], host: &mut H, b: &Bounds) -> u8
+    ensures run { IsRun H.tells_chosen H.tells_image H.tells_input H.tells_said H.now H.clock H.stopped b.now (map (λ word. word.now) words.now) (steps_named (map (λ word. word.now) words.now)) host.old host.new result }
+{
+    match read_words(alloc, words) {
+        Ok(
+            Request::Run {
+                store,
+                input,
+                steps,
+            },
+        ) => run_named(alloc, store, input, steps, host, b),
+        Ok(Request::Make { .. }) => USAGE,
+        Err(WordsFault::Usage) => USAGE,
+        Err(WordsFault::Memory) => MEMORY,
     }
 }
 
@@ -113,8 +128,8 @@ pub fn run_within<H: Host>(alloc: Global, words: &[&str], host: &mut H, b: &Boun
 pub fn run<H: Host>(alloc: Global, words: &[&str], host: &mut H) -> u8
     ensures headline { H.tells_image → H.tells_said → H.tells_input → IsStill H.clock H.stopped host.old (H.now host.old).image
         → (work : Work) → IsStart (H.now host.old).image work
-        → (c s : List ℕ) → H.stopped host.new (H.clock host.old) c s → IsSessionPoint work (session_of product_bounds work (H.now host.old).left) (H.now host.old).said c s }
-    ensures run { IsRun H.tells_chosen H.tells_image H.tells_input H.tells_said H.now H.clock H.stopped product_bounds (map (λ word. word.now) words.now) host.old host.new result }
+        → (c s : List ℕ) → H.stopped host.new (H.clock host.old) c s → IsSessionPoint work (session_of product_bounds (steps_named (map (λ word. word.now) words.now)) work (H.now host.old).left) (H.now host.old).said c s }
+    ensures run { IsRun H.tells_chosen H.tells_image H.tells_input H.tells_said H.now H.clock H.stopped product_bounds (map (λ word. word.now) words.now) (steps_named (map (λ word. word.now) words.now)) host.old host.new result }
 {
     let bounds = Bounds {
         input: INPUT_BOUND,

@@ -5,14 +5,13 @@ ghost use Rattle.abc_outside.specs.Stop.{Leaves, IsQuiet, Now};
 ghost use Rattle.abc_turns.specs.Session.{waiting, replies, output, works, last_work};
 ghost use Rattle.abc_turns.specs.Stops.{IsBetween, IsBroken, IsCutShort};
 ghost use Rattle.abc_reader.specs.Asking.{Asked, AskedRising, next_ask};
-ghost use Rattle.abc_reader.specs.Reading.{WantsMore, AsksMore};
 ghost use Rattle.abc_store.specs.Commit.{Holds};
 ghost use Rattle.abc_store.specs.View.{work_of};
 ghost use Rattle.abc_session.specs.Session.{session_of};
 ghost use Rattle.abc_session.specs.Serving.{OpensTo, IsSessionPoint, NoneFell, OnlyInputFailed, OnlyStoreFailed, OnlySinkFailed};
 ghost use Rattle.abc_session.specs.Settled.{AsksSettled, IsWaiting};
 ghost use Rattle.abc_session.specs.Run.{HasEnded};
-ghost use Rattle.abc_session.specs.inner.Place.{place_at, session_at, WentOn, Ended};
+ghost use Rattle.abc_session.specs.inner.Place.{place_at, session_at, WentOn, Ended, WantsInput, AsksInput};
 
 use crate::serve::{ServeStop, serve_item};
 use abc_outside::{Host, LineStop};
@@ -46,12 +45,15 @@ fn stop_of_line(stop: LineStop) -> SessionStop
 
 /// Why a session ends whose item is not served.
 fn stop_of_item(stop: ServeStop) -> SessionStop
+    ensures input { result ≡ SessionStop.Input → stop ≡ ServeStop.Input }
+    ensures long { result ≡ SessionStop.Long → stop ≡ ServeStop.Long }
     ensures store_fault { result ≡ SessionStop.StoreFault → stop ≡ ServeStop.StoreFault }
     ensures sink_fault { result ≡ SessionStop.SinkFault → stop ≡ ServeStop.SinkFault }
     ensures memory { result ≡ SessionStop.Memory → stop ≡ ServeStop.Memory }
-    ensures no_other { (result ≢ SessionStop.Input) × (result ≢ SessionStop.Long) }
 {
     match stop {
+        ServeStop::Input => SessionStop::Input,
+        ServeStop::Long => SessionStop::Long,
         ServeStop::StoreFault => SessionStop::StoreFault,
         ServeStop::SinkFault => SessionStop::SinkFault,
         ServeStop::Memory => SessionStop::Memory,
@@ -65,6 +67,7 @@ fn turn<H: Host>(
     host: &mut H,
     reader: &mut Reader,
     served: &mut u64,
+    steps: u64,
 ) -> Result<bool, SessionStop>
     requires sound { IsTrue store.old.sound }
     requires holds { H.tells_image → Holds (H.now host.old).image (work_of store.old) }
@@ -72,9 +75,9 @@ fn turn<H: Host>(
     requires ended { H.tells_input → reader.old.ended ≡ true → (H.now host.old).left ≡ [] }
     requires counted { served.old ≤ reader.old.used }
 
-    ensures goes_on { H.tells_input → result ≡ Ok true → WentOn store.old.bounds H.tells_said
+    ensures goes_on { H.tells_input → result ≡ Ok true → WentOn store.old.bounds steps H.tells_said
         (place_at served.old (work_of store.old) reader.old (H.now host.old)) (place_at served.new (work_of store.new) reader.new (H.now host.new)) }
-    ensures ends { H.tells_input → result ≡ Ok false → Ended store.old.bounds H.tells_said
+    ensures ends { H.tells_input → result ≡ Ok false → Ended store.old.bounds steps H.tells_said
         (place_at served.old (work_of store.old) reader.old (H.now host.old)) (place_at served.new (work_of store.new) reader.new (H.now host.new)) }
 
     ensures input_fault { IsErrOf result SessionStop.Input → RoseByOne (H.now host.old).input_faults (H.now host.new).input_faults }
@@ -102,32 +105,32 @@ fn turn<H: Host>(
 
     // What it asked for.
     ensures asked { H.tells_said → H.tells_input
-        → Asked (AsksMore reader.old (H.now host.old).left (length (H.now host.old).said)) (H.now host.old).asked (H.now host.new).asked }
+        → Asked (AsksInput store.old.bounds steps (place_at served.old (work_of store.old) reader.old (H.now host.old))) (H.now host.old).asked (H.now host.new).asked }
     ensures asks_rise { H.tells_said → AskedRising (next_ask reader.old.taken reader.old.ended) (next_ask reader.new.taken reader.new.ended) (H.now host.old).asked (H.now host.new).asked }
     ensures stays_ended { reader.old.ended ≡ true → reader.new.ended ≡ true }
     ensures ended_asks { reader.old.ended ≡ true → (H.now host.new).asked ≡ (H.now host.old).asked }
     ensures ended_ends { reader.old.ended ≡ true → (IsErrOf result SessionStop.Input ⊎ IsErrOf result SessionStop.Long) → ⊥ }
     ensures wants { H.tells_input → (IsErrOf result SessionStop.Input ⊎ IsErrOf result SessionStop.Long)
-        → WantsMore reader.old (H.now host.old).left (H.now host.new).taken }
+        → WantsInput store.old.bounds steps (place_at served.old (work_of store.old) reader.old (H.now host.old)) (H.now host.new).taken }
 
     // What stands where it stops.
-    ensures idle_said { (IsErrOf result SessionStop.Input ⊎ IsErrOf result SessionStop.Long ⊎ IsErrOf result SessionStop.Memory) → (H.now host.new).said ≡ (H.now host.old).said }
+    ensures idle_said { (IsErrOf result SessionStop.Memory ⊎ IsErrOf result SessionStop.Input ⊎ IsErrOf result SessionStop.Long) → (H.now host.new).said ≡ (H.now host.old).said }
     ensures idle { H.tells_image → IsQuiet H.clock H.stopped host.old (H.now host.old).image
-        → (IsErrOf result SessionStop.Input ⊎ IsErrOf result SessionStop.Long ⊎ IsErrOf result SessionStop.Memory)
+        → (IsErrOf result SessionStop.Memory ⊎ IsErrOf result SessionStop.Input ⊎ IsErrOf result SessionStop.Long)
         → (c s : List ℕ) → Now H.clock H.stopped host.new c s → OpensTo c (work_of store.old) }
     ensures broken { H.tells_image → H.tells_said → H.tells_input → IsQuiet H.clock H.stopped host.old (H.now host.old).image → IsErrOf result SessionStop.StoreFault
-        → IsBroken OpensTo (works (work_of store.old) (session_at store.old.bounds (place_at served.old (work_of store.old) reader.old (H.now host.old))))
-        (replies (session_at store.old.bounds (place_at served.old (work_of store.old) reader.old (H.now host.old))))
+        → IsBroken OpensTo (works (work_of store.old) (session_at store.old.bounds steps (place_at served.old (work_of store.old) reader.old (H.now host.old))))
+        (replies (session_at store.old.bounds steps (place_at served.old (work_of store.old) reader.old (H.now host.old))))
         (H.now host.old).said (H.now host.new).said (Now H.clock H.stopped host.new) }
     ensures cut_short { H.tells_image → H.tells_said → H.tells_input → IsQuiet H.clock H.stopped host.old (H.now host.old).image → IsErrOf result SessionStop.SinkFault
-        → IsCutShort OpensTo (works (work_of store.old) (session_at store.old.bounds (place_at served.old (work_of store.old) reader.old (H.now host.old))))
-        (replies (session_at store.old.bounds (place_at served.old (work_of store.old) reader.old (H.now host.old))))
+        → IsCutShort OpensTo (works (work_of store.old) (session_at store.old.bounds steps (place_at served.old (work_of store.old) reader.old (H.now host.old))))
+        (replies (session_at store.old.bounds steps (place_at served.old (work_of store.old) reader.old (H.now host.old))))
         (H.now host.old).said (H.now host.new).said (Now H.clock H.stopped host.new) }
 
     // At every moment of the call, and at its end.
     ensures stops { H.tells_image → H.tells_said → H.tells_input → IsQuiet H.clock H.stopped host.old (H.now host.old).image
         → Leaves H.clock H.stopped host.old host.new (IsSessionPoint (work_of store.old)
-        (session_at store.old.bounds (place_at served.old (work_of store.old) reader.old (H.now host.old))) (H.now host.old).said) }
+        (session_at store.old.bounds steps (place_at served.old (work_of store.old) reader.old (H.now host.old))) (H.now host.old).said) }
     ensures quiet { H.tells_image → IsQuiet H.clock H.stopped host.old (H.now host.old).image
         → OnOk result (IsQuiet H.clock H.stopped host.new (H.now host.new).image) }
 {
@@ -137,7 +140,7 @@ fn turn<H: Host>(
         Err(stop) => return Err(stop_of_line(stop)),
     };
     *served += 1;
-    match serve_item(alloc, store, host, &item, *served) {
+    match serve_item(alloc, store, host, reader, &item, *served, steps) {
         Ok(done) => Ok(!done.quit),
         Err(stop) => Err(stop_of_item(stop)),
     }
@@ -149,6 +152,7 @@ pub(crate) fn serve_all<H: Host>(
     store: &mut Store,
     host: &mut H,
     bound: u64,
+    steps: u64,
 ) -> Result<(), SessionStop>
     requires sound { IsTrue store.old.sound }
     requires holds { H.tells_image → Holds (H.now host.old).image (work_of store.old) }
@@ -156,15 +160,15 @@ pub(crate) fn serve_all<H: Host>(
     requires same_bound { bound ≡ store.old.bounds.input }
 
     ensures said { H.tells_said → H.tells_input → OnOk result ((H.now host.new).said ≡ (H.now host.old).said
-        ++ output (session_of store.old.bounds (work_of store.old) (H.now host.old).left)) }
-    ensures work { H.tells_input → OnOk result (work_of store.new ≡ last_work (work_of store.old) (session_of store.old.bounds (work_of store.old) (H.now host.old).left)) }
+        ++ output (session_of store.old.bounds steps (work_of store.old) (H.now host.old).left)) }
+    ensures work { H.tells_input → OnOk result (work_of store.new ≡ last_work (work_of store.old) (session_of store.old.bounds steps (work_of store.old) (H.now host.old).left)) }
     ensures holds { H.tells_image → OnOk result (Holds (H.now host.new).image (work_of store.new)) }
-    ensures ended { H.tells_input → OnOk result (HasEnded (session_of store.old.bounds (work_of store.old) (H.now host.old).left).ending store.old.bounds.input (H.now host.old) (H.now host.new)) }
+    ensures ended { H.tells_input → OnOk result (HasEnded (session_of store.old.bounds steps (work_of store.old) (H.now host.old).left).ending store.old.bounds.input (H.now host.old) (H.now host.new)) }
 
     ensures long { IsErrOf result SessionStop.Long → (H.now host.new).taken ≡ bound }
     ensures most_taken { (H.now host.new).taken ≤ bound }
     ensures long_input { H.tells_input → IsErrOf result SessionStop.Long → bound ≤ length (H.now host.old).left }
-    ensures waits { H.tells_input → IsErrOf result SessionStop.Long → (session_of store.old.bounds (work_of store.old) (H.now host.old).left).ending ≡ waiting }
+    ensures waits { H.tells_input → IsErrOf result SessionStop.Long → (session_of store.old.bounds steps (work_of store.old) (H.now host.old).left).ending ≡ waiting }
     ensures input_fault { IsErrOf result SessionStop.Input → RoseByOne (H.now host.old).input_faults (H.now host.new).input_faults }
     ensures store_fault { IsErrOf result SessionStop.StoreFault → RoseByOne (H.now host.old).store_faults (H.now host.new).store_faults }
     ensures sink_fault { IsErrOf result SessionStop.SinkFault → RoseByOne (H.now host.old).sink_faults (H.now host.new).sink_faults }
@@ -177,30 +181,30 @@ pub(crate) fn serve_all<H: Host>(
     ensures none_fell { NoneFell (H.now host.old) (H.now host.new) }
 
     // What was asked for, and what stands where the session stops.
-    ensures asked { H.tells_said → H.tells_input → Asked (AsksSettled store.old.bounds (work_of store.old) (H.now host.old).left (length (H.now host.old).said))
+    ensures asked { H.tells_said → H.tells_input → Asked (AsksSettled store.old.bounds steps (work_of store.old) (H.now host.old).left (length (H.now host.old).said))
         (H.now host.old).asked (H.now host.new).asked }
     ensures asks_rise { H.tells_said → AskedRising 0 (suc (H.now host.new).taken) (H.now host.old).asked (H.now host.new).asked }
     ensures waiting { H.tells_image → H.tells_said → H.tells_input → IsQuiet H.clock H.stopped host.old (H.now host.old).image
         → (IsErrOf result SessionStop.Input ⊎ IsErrOf result SessionStop.Long)
-        → IsWaiting store.old.bounds (work_of store.old) (H.now host.old).left (H.now host.old).said (H.now host.new) (Now H.clock H.stopped host.new) }
+        → IsWaiting store.old.bounds steps (work_of store.old) (H.now host.old).left (H.now host.old).said (H.now host.new) (Now H.clock H.stopped host.new) }
     ensures between { H.tells_image → H.tells_said → H.tells_input → IsQuiet H.clock H.stopped host.old (H.now host.old).image → IsErrOf result SessionStop.Memory
-        → IsBetween OpensTo (works (work_of store.old) (session_of store.old.bounds (work_of store.old) (H.now host.old).left)) (replies (session_of store.old.bounds (work_of store.old) (H.now host.old).left))
+        → IsBetween OpensTo (works (work_of store.old) (session_of store.old.bounds steps (work_of store.old) (H.now host.old).left)) (replies (session_of store.old.bounds steps (work_of store.old) (H.now host.old).left))
         (H.now host.old).said (H.now host.new).said (Now H.clock H.stopped host.new) }
     ensures broken { H.tells_image → H.tells_said → H.tells_input → IsQuiet H.clock H.stopped host.old (H.now host.old).image → IsErrOf result SessionStop.StoreFault
-        → IsBroken OpensTo (works (work_of store.old) (session_of store.old.bounds (work_of store.old) (H.now host.old).left)) (replies (session_of store.old.bounds (work_of store.old) (H.now host.old).left))
+        → IsBroken OpensTo (works (work_of store.old) (session_of store.old.bounds steps (work_of store.old) (H.now host.old).left)) (replies (session_of store.old.bounds steps (work_of store.old) (H.now host.old).left))
         (H.now host.old).said (H.now host.new).said (Now H.clock H.stopped host.new) }
     ensures cut_short { H.tells_image → H.tells_said → H.tells_input → IsQuiet H.clock H.stopped host.old (H.now host.old).image → IsErrOf result SessionStop.SinkFault
-        → IsCutShort OpensTo (works (work_of store.old) (session_of store.old.bounds (work_of store.old) (H.now host.old).left)) (replies (session_of store.old.bounds (work_of store.old) (H.now host.old).left))
+        → IsCutShort OpensTo (works (work_of store.old) (session_of store.old.bounds steps (work_of store.old) (H.now host.old).left)) (replies (session_of store.old.bounds steps (work_of store.old) (H.now host.old).left))
         (H.now host.old).said (H.now host.new).said (Now H.clock H.stopped host.new) }
 
     // At every moment of the session, and at its end.
     ensures stops { H.tells_image → H.tells_said → H.tells_input → IsQuiet H.clock H.stopped host.old (H.now host.old).image
-        → Leaves H.clock H.stopped host.old host.new (IsSessionPoint (work_of store.old) (session_of store.old.bounds (work_of store.old) (H.now host.old).left) (H.now host.old).said) }
+        → Leaves H.clock H.stopped host.old host.new (IsSessionPoint (work_of store.old) (session_of store.old.bounds steps (work_of store.old) (H.now host.old).left) (H.now host.old).said) }
     ensures quiet { H.tells_image → IsQuiet H.clock H.stopped host.old (H.now host.old).image
         → OnOk result (IsQuiet H.clock H.stopped host.new (H.now host.new).image) }
 {
     let mut reader = Reader::new(alloc, bound);
     let mut served = 0;
-    'items: while turn(alloc, store, host, &mut reader, &mut served)? {}
+    'items: while turn(alloc, store, host, &mut reader, &mut served, steps)? {}
     Ok(())
 }

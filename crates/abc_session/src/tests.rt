@@ -85,7 +85,7 @@ struct Session {
     size: usize,
 }
 
-const SESSIONS: [Session; 15] = [
+const SESSIONS: [Session; 19] = [
     Session {
         name: "no lines",
         input: "",
@@ -171,6 +171,30 @@ const SESSIONS: [Session; 15] = [
         size: 65,
     },
     Session {
+        name: "lines that are read",
+        input: "READ n EG 0\n41\nREAD s RAW\n two words\nWRITE n + 1, s /\n",
+        said: "[1] ok\n[2] ok\n42  two words\n[3] ok\n",
+        size: 135,
+    },
+    Session {
+        name: "the line that ended the item is read first, and then a blank one",
+        input: "IF 1 = 1:\n  READ a RAW\n  READ b RAW\nWRITE 1\n\nWRITE a, b /\n",
+        said: "[1] ok\nWRITE 1 \n[2] ok\n",
+        size: 107,
+    },
+    Session {
+        name: "no line is left to be read",
+        input: "WRITE 1\nREAD x EG 0\n",
+        said: "1\n[1] ok\n[2] fault line 1: NoInput\n",
+        size: 65,
+    },
+    Session {
+        name: "lines that ask about the workspace",
+        input: "PUT 41 IN x\n==\n=x\n=y\n::\n",
+        said: "[1] ok\nx\n[2] ok\n41\n[3] ok\n[4] fault line 1: NoTarget\n[5] ok\n",
+        size: 101,
+    },
+    Session {
         name: "the largest number, and one more",
         input: "WRITE 170141183460469231731687303715884105727\nWRITE 170141183460469231731687303715884105728\n",
         said: "170141183460469231731687303715884105727\n[1] ok\n[2] fault line 1: BadNumber\n",
@@ -199,17 +223,19 @@ struct Bounded {
     input: &'static str,
     most_input: u64,
     most_image: u64,
+    most_checkpoint: u64,
     status: u8,
     said: &'static str,
     size: usize,
 }
 
-const BOUNDED: [Bounded; 8] = [
+const BOUNDED: [Bounded; 18] = [
     Bounded {
         words: &WORDS,
         input: "WRITE 1",
         most_input: 8,
         most_image: 1000,
+        most_checkpoint: 1000,
         status: COMPLETE,
         said: "1\n[1] ok\n",
         size: 65,
@@ -219,6 +245,7 @@ const BOUNDED: [Bounded; 8] = [
         input: "WRITE 1\n",
         most_input: 8,
         most_image: 1000,
+        most_checkpoint: 1000,
         status: INPUT_TOO_LONG,
         said: "1\n[1] ok\n",
         size: 65,
@@ -228,6 +255,7 @@ const BOUNDED: [Bounded; 8] = [
         input: "WRITE 12",
         most_input: 8,
         most_image: 1000,
+        most_checkpoint: 1000,
         status: INPUT_TOO_LONG,
         said: "",
         size: 65,
@@ -237,6 +265,17 @@ const BOUNDED: [Bounded; 8] = [
         input: "\n\n\n\n\n\n\n\nWRITE 1\n",
         most_input: 8,
         most_image: 1000,
+        most_checkpoint: 1000,
+        status: INPUT_TOO_LONG,
+        said: "",
+        size: 65,
+    },
+    Bounded {
+        words: &WORDS,
+        input: "READ s RAW\nabc\n",
+        most_input: 13,
+        most_image: 1000,
+        most_checkpoint: 1000,
         status: INPUT_TOO_LONG,
         said: "",
         size: 65,
@@ -246,15 +285,107 @@ const BOUNDED: [Bounded; 8] = [
         input: "PUT 1 IN x\nPUT 2 IN y\nWRITE x\n",
         most_input: 1000,
         most_image: 101,
+        most_checkpoint: 1000,
         status: COMPLETE,
         said: "[1] ok\n[2] fault line 1: StoreFull\n1\n[3] ok\n",
         size: 101,
+    },
+    Bounded {
+        words: &WORDS,
+        input: "PUT 1 IN x\n",
+        most_input: 1000,
+        most_image: 5000,
+        most_checkpoint: 36,
+        status: COMPLETE,
+        said: "[1] ok\n",
+        size: 138,
+    },
+    Bounded {
+        words: &WORDS,
+        input: "PUT 1 IN x\nPUT 2 IN x\n",
+        most_input: 1000,
+        most_image: 5000,
+        most_checkpoint: 36,
+        status: COMPLETE,
+        said: "[1] ok\n[2] ok\n",
+        size: 174,
+    },
+    Bounded {
+        words: &WORDS,
+        input: "PUT 1 IN x\nPUT 2 IN x\nPUT 3 IN x\n",
+        most_input: 1000,
+        most_image: 5000,
+        most_checkpoint: 36,
+        status: COMPLETE,
+        said: "[1] ok\n[2] ok\n[3] ok\n",
+        size: 210,
+    },
+    Bounded {
+        words: &WORDS,
+        input: "PUT 1 IN x\nPUT 2 IN x\nPUT 3 IN x\nPUT 4 IN x\n",
+        most_input: 1000,
+        most_image: 5000,
+        most_checkpoint: 36,
+        status: COMPLETE,
+        said: "[1] ok\n[2] ok\n[3] ok\n[4] ok\n",
+        size: 101,
+    },
+    Bounded {
+        words: &WORDS,
+        input: "PUT 1 IN x\nPUT 2 IN x\nPUT 3 IN x\n",
+        most_input: 1000,
+        most_image: 138,
+        most_checkpoint: 1048576,
+        status: COMPLETE,
+        said: "[1] ok\n[2] ok\n[3] fault line 1: StoreFull\n",
+        size: 137,
+    },
+    Bounded {
+        words: &WORDS,
+        input: "PUT 1 IN x\nPUT 2 IN x\nPUT 3 IN x\nPUT 4 IN x\n",
+        most_input: 1000,
+        most_image: 173,
+        most_checkpoint: 1048576,
+        status: COMPLETE,
+        said: "[1] ok\n[2] ok\n[3] ok\n[4] fault line 1: StoreFull\n",
+        size: 173,
+    },
+    Bounded {
+        words: &WORDS,
+        input: "PUT 1 IN x\nPUT 2 IN x\n",
+        most_input: 1000,
+        most_image: 101,
+        most_checkpoint: 1048576,
+        status: COMPLETE,
+        said: "[1] ok\n[2] fault line 1: StoreFull\n",
+        size: 101,
+    },
+    Bounded {
+        words: &["my.store", "--from", "f", "--steps", "9"],
+        input: "WHILE 1 = 1:\n  PASS\n\nWRITE 1\n",
+        most_input: 1000,
+        most_image: 1000,
+        most_checkpoint: 1000,
+        status: COMPLETE,
+        said: "[1] fault line 1: BudgetSpent\n1\n[2] ok\n",
+        size: 65,
+    },
+    Bounded {
+        words: &["my.store", "--steps", "0"],
+        input: "WRITE 1\n",
+        most_input: 1000,
+        most_image: 1000,
+        most_checkpoint: 1000,
+        status: USAGE,
+        said: "",
+        size: 0,
     },
     Bounded {
         words: &[],
         input: "WRITE 1\n",
         most_input: 1000,
         most_image: 1000,
+        most_checkpoint: 1000,
         status: USAGE,
         said: "",
         size: 0,
@@ -264,6 +395,7 @@ const BOUNDED: [Bounded; 8] = [
         input: "WRITE 1\n",
         most_input: 1000,
         most_image: 1000,
+        most_checkpoint: 1000,
         status: USAGE,
         said: "",
         size: 0,
@@ -273,6 +405,7 @@ const BOUNDED: [Bounded; 8] = [
         input: "WRITE 1\n",
         most_input: 1000,
         most_image: 1000,
+        most_checkpoint: 1000,
         status: USAGE,
         said: "",
         size: 0,
@@ -286,7 +419,7 @@ fn words_and_bounds_are_kept_to(rt: HostRuntime) -> Result<(), Fail> {
         let bounds = Bounds {
             input: row.most_input,
             image: row.most_image,
-            checkpoint: 1000,
+            checkpoint: row.most_checkpoint,
         };
         let left = ran(alloc, row.words, &[], row.input, &bounds)?;
         assert_eq!(rt; left.status, row.status, "{}", row.input);
@@ -311,7 +444,7 @@ const NO_X: &str = "[1] fault line 1: Missing RETURN x\n";
 
 const THREE_PUTS: &str = "PUT 1 IN x\nPUT 2 IN x\nPUT 3 IN x\n";
 
-const FAILING: [Failing; 7] = [
+const FAILING: [Failing; 8] = [
     Failing {
         name: "the store cannot be chosen",
         input: THREE_PUTS,
@@ -337,6 +470,15 @@ const FAILING: [Failing; 7] = [
         n: 2,
         status: INPUT_FAULT,
         said: "[1] ok\n[2] ok\n[3] ok\n",
+        found: "3\n[1] ok\n",
+    },
+    Failing {
+        name: "a read within an item",
+        input: "PUT 3 IN x\nREAD x RAW\n",
+        kind: CallKind::Read,
+        n: 2,
+        status: INPUT_FAULT,
+        said: "[1] ok\n",
         found: "3\n[1] ok\n",
     },
     Failing {

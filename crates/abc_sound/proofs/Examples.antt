@@ -1,93 +1,37 @@
--- What the premises of the law are for, and a command that meets them, by computing.
-use Rattle.std.specs.Prelude.{◌≡◌, ◌≤◌, ℕ, zero, suc, Bool, true, false, List, [], ◌∷◌, Some, None, codes, pos, slice_get}
+-- A command that meets the premises of the law, by computing.
+use Rattle.std.specs.Prelude.{◌≡◌, ◌≤◌, ℕ, zero, suc, true, List, [], ◌∷◌, Some, None, codes, slice_get}
 use Rattle.std.proofs.Common.{rules, refl, sym, subst, arith}
 use Rattle.std.specs.List.{AllByRecursion, Contains}
-use Rattle.abc_num.specs.Number.{whole_number}
-use Rattle.abc_num.specs.declared.lines.Line.{Line}
 use Rattle.abc_num.specs.declared.types.Ground.{Ground, the_lemmas as grounds}
 use Rattle.abc_num.specs.declared.types.Ground.TheVariants as type
 use Rattle.abc_num.specs.Types.{is_proper}
-use Rattle.abc_tokens.specs.Scanned as scanned
 use Rattle.abc_tree.specs.Calls.{command_called_upto}
-use Rattle.abc_tree.specs.RegularItems.{formal_names, is_regular_unit, is_regular_command}
+use Rattle.abc_tree.specs.RegularItems.{is_regular_command}
 use Rattle.abc_tree.specs.declared.formulas.Expr.{Expr, the_lemmas}
 use Rattle.abc_tree.specs.declared.formulas.Expr.TheVariants as e
-use Rattle.abc_tree.specs.declared.formulas.Bound.{Bound, the_lemmas as bounds}
-use Rattle.abc_tree.specs.declared.formulas.Bound.TheVariants as b
+use Rattle.abc_tree.specs.declared.formulas.Bound.{the_lemmas as bounds}
 use Rattle.abc_tree.specs.declared.formulas.Test.{the_lemmas as tests}
 use Rattle.abc_tree.specs.declared.templates.Template.{Template}
-use Rattle.abc_tree.specs.declared.templates.TemplateKind.TheVariants as kind
-use Rattle.abc_tree.specs.declared.templates.Word.TheVariants as w
 use Rattle.abc_tree.specs.declared.commands.Action.{Action, roll-Action}
 use Rattle.abc_tree.specs.declared.commands.ActionNode.{ActionNode, the_lemmas as actions}
 use Rattle.abc_tree.specs.declared.commands.ActionNode.TheVariants as n
 use Rattle.abc_tree.specs.declared.commands.Command.{Command}
-use Rattle.abc_tree.specs.declared.commands.Refinement.{Refinement}
-use Rattle.abc_tree.specs.declared.commands.RefinementKind.TheVariants as refines
-use Rattle.abc_tree.specs.declared.commands.Unit.{Unit as Routine}
 use Rattle.abc_ground.specs.Seen.{over_two, one_type, node, characters, leaf, name as name_rule, more, no_nodes, command_upto}
 use Rattle.abc_ground.specs.Fits.{Typing, each_fits}
 use Rattle.abc_ground.specs.Calls.{any_allowed}
 use Rattle.abc_ground.specs.Groups.{whole}
 use Rattle.abc_ground.specs.Items.{CommandFits}
-use Rattle.abc_ground.specs.Typable.{AreTypes, IsOffered, IsTypableWith}
-use Rattle.abc_meaning.specs.Deeper.{Actual}
-use Rattle.abc_meaning.specs.PutBack.{entry}
+use Rattle.abc_ground.specs.Typable.{IsOffered, IsTypableWith}
 use Rattle.abc_meaning.specs.Laws.{lines_in}
 use Rattle.abc_meaning.specs.Written.{numbers_in_action}
 use Rattle.abc_meaning.specs.Regular.{AreNumbers}
-use Rattle.abc_sound.specs.Checked.{IsSessionItem, EndsBy}
+use Rattle.abc_sound.specs.Checked.{IsSessionItem}
 
 abbrev name : ℕ → Expr
 name i = e.Name (record { 0 = i })
 
 abbrev on : ℕ → ActionNode → Action
 on line what = roll-Action (record { line = line; node = what })
-
-abbrev written : Line
-written = record { indent = 0; text = []; long = false }
-
--- ---- HOW TO DRAW (x, y): PASS
-
-abbrev draw : Routine
-draw = record {
-  template = record { kind = kind.Command; words = w.Key (codes "DRAW") ∷ w.Place ∷ []; places = 1 };
-  formals = b.Several (b.One (record { 0 = 0 }) ∷ b.One (record { 0 = 1 }) ∷ []) ∷ [];
-  names = codes "x" ∷ codes "y" ∷ [];
-  shared = [];
-  body = on 1 n.Pass ∷ [];
-  refinements = [];
-  lines = written ∷ [];
-}
-
-draw_is_regular : is_regular_unit draw ≡ true
-unfolding is_regular_unit scanned.word_in_front
-draw_is_regular = search (rules, the_lemmas, bounds, tests, actions)
-
--- A call has one actual, and the unit two names for it. So the formals of a command unit are to be names by themselves.
-two_names : formal_names draw ≡ 0 ∷ 1 ∷ []
-two_names = search (rules, bounds)
-
-no_entry : (a : Actual) → entry (formal_names draw) (a ∷ []) ≡ None
-no_entry a = subst (λ ns. entry ns (a ∷ []) ≡ None) (sym two_names) refl
-
--- ---- a unit with the name x twice, whose refinement x gives what the first has
-
-abbrev twice : Routine
-twice = record {
-  template = record { kind = kind.Function; words = w.Key (codes "f") ∷ []; places = 0 };
-  formals = [];
-  names = codes "x" ∷ codes "x" ∷ [];
-  shared = [];
-  body = on 2 (n.Return (name 1)) ∷ [];
-  refinements = record { name = codes "x"; kind = refines.Expression; line = 3; suite = on 4 (n.Return (e.Number (whole_number (pos 1)))) ∷ [] } ∷ [];
-  lines = written ∷ written ∷ written ∷ written ∷ [];
-}
-
--- So the names are to be different.
-twice_is_regular : is_regular_unit twice ≡ true
-unfolding is_regular_unit scanned.word_in_front
-twice_is_regular = search (rules, the_lemmas, bounds, tests, actions)
 
 -- ---- PUT "" IN x
 

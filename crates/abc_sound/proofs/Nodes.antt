@@ -29,7 +29,7 @@ use Rattle.abc_frames.specs.Maps.{Frame, with_value_at}
 use Rattle.abc_tree.specs.Height.{above, highest, height, height_over, piece_heights, fill_heights, pair_heights}
 use Rattle.abc_tree.specs.Lists.{flat}
 use Rattle.abc_tree.specs.Regular.{is_call, is_command, is_there, is_value_kind, is_test_kind, is_address, address_is}
-use Rattle.abc_tree.specs.RegularItems.{Part, Parts, value, address, test, parts_of, bound_names, bound_over, formal_names}
+use Rattle.abc_tree.specs.RegularItems.{Part, Parts, value, address, test, is_alone, parts_of, bound_names, bound_over, formal_names}
 use Rattle.abc_tree.specs.Units.{unit_of}
 use Rattle.abc_tree.specs.declared.operations.Op.{Op}
 use Rattle.abc_tree.specs.declared.templates.Template.{Template}
@@ -77,7 +77,6 @@ use Rattle.abc_meaning.specs.Meaning.{meaning}
 use Rattle.abc_meaning.specs.Regular.{OfActual, OfFlow, OfKeys, AreValues, HasKeys, HasValues, AreNumbers, IsNumberedScope, EachGivesValues}
 use Rattle.abc_meaning.specs.Written.{numbers_in, numbers_in_test, numbers_in_action, numbers_in_part, numbers_in_parts}
 use Rattle.abc_meaning.proofs.Opened.{together as both_all, one_more, AllParts}
-use Rattle.abc_sound.specs.Checked.{is_alone}
 use Rattle.abc_sound.proofs.Leaving.{Sure, sure, Any, Fine, Leaves, after_leaves, given, halted, next, surely, seeing, becoming, passed, either, weaker, sooner, later}
 use Rattle.abc_sound.proofs.Typed.{both_true, HaveAll, HavePairs, typed_has_type, train_has, relation_taken, membership_taken}
 use Rattle.abc_sound.proofs.Changes.{Has, AddressFits, AddressesFit, one_step, parts_fit}

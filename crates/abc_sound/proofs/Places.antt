@@ -1,8 +1,9 @@
 -- What is known where a node stands: in an accepted command, and in a unit at a signature.
 use Rattle.std.proofs.Common.{◌≡◌, ◌∙◌, refl, ap, sym, subst, ℕ, zero, suc, Bool, true, false, not, ◌&&◌, List, [], ◌∷◌, ◌++◌, map, length, Option, Some, None, if◌then◌else◌, is_some, arith}
-use Rattle.std.specs.Prelude.{◌<◌, ◌≤◌, ◌≢◌, ◌+◌, ◌==◌, ◌||◌, nat_le, nat_lt, cond, slice_get, slice_index_or, option_and_then, option_map, unwrap_or, IsSome, position}
+use Rattle.std.specs.Prelude.{◌<◌, ◌≤◌, ◌≢◌, ◌+◌, ◌==◌, ◌||◌, nat_le, nat_lt, cond, slice_get, slice_index_or, get_or, option_and_then, option_map, unwrap_or, IsSome, position}
 use Rattle.std.specs.List.{AllByRecursion, Contains, list_all, list_any, filter, prefix_len}
-use Rattle.std.proofs.lemmas.Bool.{and_parts}
+use Rattle.std.proofs.lemmas.Bool.{and_parts, or_parts}
+use Rattle.std.proofs.lemmas.List.Kept.{AllPairs-cons}
 use Rattle.std.proofs.lemmas.Bool.Decides.{nat_tests}
 use Rattle.abc_num.specs.Names.{AreDifferent, number_of}
 use Rattle.abc_num.specs.Number.{IsNumber}
@@ -14,7 +15,7 @@ use Rattle.abc_tree.specs.Calls.{calls_in_unit, calls_in_action, calls_in_refine
 use Rattle.abc_tree.specs.Lined.{Lined}
 use Rattle.abc_tree.specs.Lists.{flat}
 use Rattle.abc_tree.specs.Regular.{Names, is_there, is_value_kind, is_test_kind, is_call, is_command, is_regular_template}
-use Rattle.abc_tree.specs.RegularItems.{Part, Parts, line, value, address, example, test, bound, quits, returns, reports, calls, refinement, early_else, here, parts_of, suite_parts, parts_of_unit, Exits, exits_of, refinement_exits, is_regular_part, are_regular_parts, line_of, lines_of, bounds_of, is_among, command_names, names_of, name_at, refinement_by, refinement_named, is_one_of, is_command_refinement, command_refinements, has_regular_bodies, has_regular_lines, shared_names, do_not_fall, is_regular_unit, is_regular_command}
+use Rattle.abc_tree.specs.RegularItems.{Part, Parts, line, value, address, example, test, bound, quits, returns, reports, calls, refinement, early_else, here, parts_of, suite_parts, parts_of_unit, Exits, exits_of, refinement_exits, is_regular_part, are_regular_parts, line_of, lines_of, bounds_of, is_among, command_names, names_of, name_at, refinement_by, refinement_named, is_one_of, are_different, is_alone, has_plain_formals, is_command_refinement, command_refinements, has_regular_bodies, has_regular_lines, shared_names, do_not_fall, is_regular_unit, is_regular_command}
 use Rattle.abc_tree.specs.declared.formulas.NameId.{NameId}
 use Rattle.abc_tree.specs.declared.formulas.Bound.{Bound, out-Bound}
 use Rattle.abc_tree.specs.declared.templates.Template.{Template}
@@ -40,7 +41,7 @@ use Rattle.abc_meaning.specs.Laws.{lines_in}
 use Rattle.abc_meaning.specs.Regular.{AreNumbers, IsNumbered}
 use Rattle.abc_meaning.specs.Written.{numbers_in_part, numbers_in_parts, numbers_in_action}
 use Rattle.abc_meaning.proofs.Opened.{front, behind, each_of_flat, AllParts, InAction, InSuite, in_suite}
-use Rattle.abc_sound.specs.Checked.{is_alone, has_plain_formals, IsReadUnit, IsReadCommand, EndsBy, ReachesNoMissing}
+use Rattle.abc_sound.specs.Checked.{IsReadUnit, IsReadCommand, EndsBy, ReachesNoMissing}
 use Rattle.abc_sound.proofs.Leaving.{Sure, sure, then_sure}
 use Rattle.abc_sound.proofs.Expressions.{names_for, NodeFits}
 use Rattle.abc_sound.proofs.Testing.{bounds_fit}
@@ -101,6 +102,23 @@ read_or : {X : Type 0} (xs : List X) (i : ℕ) (d x : X) → slice_get xs i ≡ 
 read_or [] i d x e = absurd (cc)
 read_or (y ∷ xs) zero d x e = (cc, omega arith)
 read_or (y ∷ xs) (suc i) d x e = let k = read_or xs i d x e in (k.0, omega (arith, k.1))
+
+-- names that are told to be different are so
+apart : (x : List ℕ) (names : List (List ℕ)) → is_one_of names x ≡ false → (i : ℕ) (d : List ℕ) → i < length names → x ≢ get_or names i d
+apart x [] e i d l = absurd (omega (arith, l))
+apart x (y ∷ names) e zero d l = λ same. let q = or_parts (text_eq x y) (list_any (text_eq x) names) e in let yes : text_eq x y ≡ true = (text_eq-Decides x y).1 same in absurd cc
+apart x (y ∷ names) e (suc i) d l = let q = or_parts (text_eq x y) (list_any (text_eq x) names) e in apart x names q.1 i d (omega (arith, l))
+
+differ : (names : List (List ℕ)) → are_different names ≡ true → AreDifferent names
+differ [] e = λ i j d l within. absurd (omega (arith, within))
+differ (x ∷ names) e = AllPairs-cons (λ s t. s ≢ t) x names (apart x names (no (is_one_of names x) q.0)) (differ names q.1)
+  where
+    q : (not (is_one_of names x) ≡ true) × (are_different names ≡ true)
+    q = and_parts (not (is_one_of names x)) (are_different names) e
+
+    no : (b : Bool) → not b ≡ true → b ≡ false
+    no true h = absurd cc
+    no false h = refl
 
 -- the number of a name, where the names are different
 number_is : (names : List (List ℕ)) (i : ℕ) (t : List ℕ) → AreDifferent names → slice_get names i ≡ Some t → number_of names t ≡ Some i
@@ -303,7 +321,7 @@ module _ (units : List Routine) (types : List ℕ → Ground) (upto : ℕ) where
                 by_parts (p ∷ ps) h = absurd h
 
         of_kind : (k : RefinementKind) (called : List ℕ) → is_value_kind (Some k) ≡ true → slice_get u.names i ≡ Some called → NodeFits A g (place_in u.names k called) (t ∷ []) → slice_get g.names i ≡ Some t
-        of_kind refines.Expression called kind is k = had (number_of u.names called) (number_is u.names i called read.names is) k
+        of_kind refines.Expression called kind is k = had (number_of u.names called) (number_is u.names i called (differ u.names regular.different) is) k
         of_kind refines.Test called kind is k = absurd (cc)
         of_kind refines.Command called kind is k = absurd (cc)
 
@@ -362,7 +380,7 @@ module _ (units : List Routine) (types : List ℕ → Ground) (upto : ℕ) where
         let q = and_parts (is_regular_template t) (is_command t.kind) p.0 in
         let r = unit_has IsReadUnit units t u read e in
         let same : u.template ≡ t = one_template u.template t (open_unit u r.0.regular).template q.0 r.1 in
-        plain u.template.kind u.formals (subst (λ x. is_command x.kind ≡ true) (sym same) q.1) r.0.formals
+        plain u.template.kind u.formals (subst (λ x. is_command x.kind ≡ true) (sym same) q.1) (open_unit u r.0.regular).plain
 
   -- ---- an immediate command
 

@@ -2,16 +2,11 @@
 -- typable.
 use Rattle.std.specs.Prelude.{◌≡◌, ◌≢◌, ◌≤◌, ℕ, Bool, true, false, List, IsSome}
 use Rattle.std.specs.List.{Contains, AllByRecursion, list_all}
-use Rattle.abc_num.specs.Names.{AreDifferent}
 use Rattle.abc_num.specs.declared.lines.RawLine.{RawLine}
 use Rattle.abc_num.specs.declared.types.Ground.{Ground}
 use Rattle.abc_tree.specs.Calls.{command_called_upto}
 use Rattle.abc_tree.specs.RegularItems.{is_regular_unit, is_regular_command}
-use Rattle.abc_tree.specs.declared.formulas.Bound.{Bound, out-Bound}
-use Rattle.abc_tree.specs.declared.formulas.Bound.TheOpen.{Bound-F}
 use Rattle.abc_tree.specs.declared.templates.Template.{Template}
-use Rattle.abc_tree.specs.declared.templates.TemplateKind.{TemplateKind}
-use Rattle.abc_tree.specs.declared.templates.TemplateKind.TheVariants as kind
 use Rattle.abc_tree.specs.declared.commands.Command.{Command}
 use Rattle.abc_tree.specs.declared.commands.Unit.{Unit as Routine}
 use Rattle.abc_frames.specs.Maps.{Targets, AreRegular}
@@ -25,20 +20,8 @@ use Rattle.abc_ground.specs.Typable.{AreTypes, IsTypable, IsTypableWith, Command
 
 -- ---- units and commands as they are read from lines
 
--- a name by itself
-abbrev pub is_alone : Bound-F Bound → Bool
-is_alone (Bound-F.One i) = true
-is_alone (Bound-F.Several parts) = false
-
--- the formals of a command unit are names by themselves
-abbrev pub has_plain_formals : TemplateKind → List Bound → Bool
-has_plain_formals kind.Command formals = list_all (λ b. is_alone (out-Bound b)) formals
-has_plain_formals _ formals = true
-
 pub record IsReadUnit (u : Routine) : Type 0 where
   pub regular : is_regular_unit u ≡ true
-  pub names : AreDifferent u.names
-  pub formals : has_plain_formals u.template.kind u.formals ≡ true
   pub numbers : IsNumbered u
 
 pub record IsReadCommand (c : Command) : Type 0 where

@@ -5,7 +5,7 @@ use Rattle.std.specs.List.{list_all}
 use Rattle.std.proofs.lemmas.Bool.{and_parts}
 use Rattle.abc_num.specs.declared.limits.TheConstants.{MOST_NAMES, MOST_FORMALS}
 use Rattle.abc_tree.specs.Regular.{is_regular_template, is_regular_bound}
-use Rattle.abc_tree.specs.RegularItems.{parts_of, command_names, exits_of, are_regular_parts, lines_of, do_not_fall, bounds_of, addressed, are_apart, names_of, has_regular_bodies, has_regular_lines, has_single_roles, is_regular_command, is_regular_unit}
+use Rattle.abc_tree.specs.RegularItems.{parts_of, command_names, exits_of, are_regular_parts, lines_of, do_not_fall, bounds_of, addressed, are_apart, names_of, are_different, has_plain_formals, has_regular_bodies, has_regular_lines, has_single_roles, is_regular_command, is_regular_unit}
 use Rattle.abc_tree.specs.declared.templates.TemplateKind.TheVariants as kind
 use Rattle.abc_tree.specs.declared.commands.Command.{Command}
 use Rattle.abc_tree.specs.declared.commands.Unit.{Unit as Routine}
@@ -41,6 +41,8 @@ pub record RegularUnit (u : Routine) : Type 0 where
   pub formals : list_all (is_regular_bound (names_of u)) u.formals ≡ true
   pub shared : list_all (λ i. nat_lt i.0 (length u.names)) u.shared ≡ true
   pub few_names : nat_le (length u.names) MOST_NAMES ≡ true
+  pub different : are_different u.names ≡ true
+  pub plain : has_plain_formals u.template.kind u.formals ≡ true
   pub bodies : has_regular_bodies u ≡ true
   pub lines : has_regular_lines u ≡ true
   pub roles : has_single_roles u ≡ true
@@ -54,17 +56,21 @@ open_unit u h =
     let d = list_all (is_regular_bound (names_of u)) u.formals in
     let e = list_all (λ i. nat_lt i.0 (length u.names)) u.shared in
     let f = nat_le (length u.names) MOST_NAMES in
-    let p = and_parts (a && b && c && d && e && f && has_regular_bodies u && has_regular_lines u) (has_single_roles u) h in
-    let q = and_parts (a && b && c && d && e && f && has_regular_bodies u) (has_regular_lines u) p.0 in
-    let r = and_parts (a && b && c && d && e && f) (has_regular_bodies u) q.0 in
-    let s = and_parts (a && b && c && d && e) f r.0 in
+    let g = are_different u.names in
+    let k = has_plain_formals u.template.kind u.formals in
+    let p = and_parts (a && b && c && d && e && f && g && k && has_regular_bodies u && has_regular_lines u) (has_single_roles u) h in
+    let q = and_parts (a && b && c && d && e && f && g && k && has_regular_bodies u) (has_regular_lines u) p.0 in
+    let r = and_parts (a && b && c && d && e && f && g && k) (has_regular_bodies u) q.0 in
+    let y = and_parts (a && b && c && d && e && f && g) k r.0 in
+    let z = and_parts (a && b && c && d && e && f) g y.0 in
+    let s = and_parts (a && b && c && d && e) f z.0 in
     let t = and_parts (a && b && c && d) e s.0 in
     let v = and_parts (a && b && c) d t.0 in
     let w = and_parts (a && b) c v.0 in
     let x = and_parts a b w.0 in
-    record { template = x.0; places = x.1; few_formals = w.1; formals = v.1; shared = t.1; few_names = s.1; bodies = r.1; lines = q.1; roles = p.1 }
+    record { template = x.0; places = x.1; few_formals = w.1; formals = v.1; shared = t.1; few_names = s.1; different = z.1; plain = y.1; bodies = r.1; lines = q.1; roles = p.1 }
 
 pub close_unit : (u : Routine) → RegularUnit u → is_regular_unit u ≡ true
 unfolding is_regular_unit
 close_unit u r =
-    both (both (both (both (both (both (both (both r.template r.places) r.few_formals) r.formals) r.shared) r.few_names) r.bodies) r.lines) r.roles
+    both (both (both (both (both (both (both (both (both (both r.template r.places) r.few_formals) r.formals) r.shared) r.few_names) r.different) r.plain) r.bodies) r.lines) r.roles

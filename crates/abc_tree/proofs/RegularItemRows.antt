@@ -231,6 +231,17 @@ with_shared ids u = record {
   lines = u.lines;
 }
 
+abbrev with_names : List (List ℕ) → Routine → Routine
+with_names names u = record {
+  template = u.template;
+  formals = u.formals;
+  names = names;
+  shared = u.shared;
+  body = u.body;
+  refinements = u.refinements;
+  lines = u.lines;
+}
+
 abbrev calls_tidy : Action
 calls_tidy = on 2 (n.Refinement (codes "TIDY"))
 
@@ -275,6 +286,14 @@ a_formal_past_the_last = search (rules, the_lemmas, bounds, tests, actions)
 a_name_twice_in_a_formal : is_regular_unit (with_formals (b.Several (bound 0 ∷ bound 0 ∷ []) ∷ []) gives) ≡ false
 unfolding is_regular_unit scanned.word_in_front
 a_name_twice_in_a_formal = search (rules, the_lemmas, bounds, tests, actions)
+
+a_command_with_a_formal_of_two_names : is_regular_unit (with_formals (b.Several (bound 0 ∷ bound 1 ∷ []) ∷ []) (unit draw (on 2 n.Pass ∷ []) [])) ≡ false
+unfolding is_regular_unit scanned.word_in_front
+a_command_with_a_formal_of_two_names = search (rules, the_lemmas, bounds, tests, actions)
+
+a_name_that_stands_twice : is_regular_unit (with_names (codes "x" ∷ codes "y" ∷ codes "x" ∷ []) gives) ≡ false
+unfolding is_regular_unit scanned.word_in_front
+a_name_that_stands_twice = search (rules, the_lemmas, bounds, tests, actions)
 
 a_formal_of_two_names : is_regular_unit (with_formals (b.Several (bound 0 ∷ bound 1 ∷ []) ∷ []) gives) ≡ true
 unfolding is_regular_unit scanned.word_in_front

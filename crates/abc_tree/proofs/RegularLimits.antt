@@ -15,7 +15,7 @@ use Rattle.abc_tree.specs.declared.commands.ActionNode.{the_lemmas as actions}
 use Rattle.abc_tree.specs.declared.commands.ActionNode.TheVariants as n
 use Rattle.abc_tree.specs.declared.commands.Unit.{Unit as Routine}
 use Rattle.abc_tree.specs.Regular.{Names, is_regular_template, is_regular_bound}
-use Rattle.abc_tree.specs.RegularItems.{Part, Parts, Exits, parts_of, is_regular_part, do_not_fall, lines_of, bounds_of, addressed, is_regular_command, is_regular_unit, line_of, bounds_in, are_apart, names_of, has_regular_bodies, has_regular_lines, has_single_roles}
+use Rattle.abc_tree.specs.RegularItems.{Part, Parts, Exits, parts_of, is_regular_part, do_not_fall, lines_of, bounds_of, addressed, is_regular_command, is_regular_unit, line_of, bounds_in, are_apart, names_of, are_different, has_plain_formals, has_regular_bodies, has_regular_lines, has_single_roles}
 use Rattle.abc_tree.proofs.RegularItemRows.{on, positive}
 
 -- A command with these names, which it doesn't use.
@@ -128,13 +128,13 @@ one_suite_too_many : command (nested 51) ≡ false
 one_suite_too_many = depends_on_suites 51
 
 -- A unit with this many formals is irregular, whatever else it has.
-third_decides : (a b c d f g h i j : Bool) → c ≡ false → (a && b && c && d && f && g && h && i && j) ≡ false
-third_decides true true c d f g h i j e = ap (λ is. true && true && is && d && f && g && h && i && j) e
-third_decides true false c d f g h i j e = refl
-third_decides false b c d f g h i j e = refl
+third_decides : (a b c d f g k l h i j : Bool) → c ≡ false → (a && b && c && d && f && g && k && l && h && i && j) ≡ false
+third_decides true true c d f g k l h i j e = ap (λ is. true && true && is && d && f && g && k && l && h && i && j) e
+third_decides true false c d f g k l h i j e = refl
+third_decides false b c d f g k l h i j e = refl
 
 one_formal_too_many : (unit : Routine) → length unit.formals ≡ 51 → is_regular_unit unit ≡ false
 unfolding is_regular_unit
 one_formal_too_many unit e = third_decides (is_regular_template unit.template) (length unit.formals == unit.template.places) (nat_le (length unit.formals) MOST_FORMALS)
     (list_all (is_regular_bound (names_of unit)) unit.formals) (list_all (λ i. nat_lt i.0 (length unit.names)) unit.shared) (nat_le (length unit.names) MOST_NAMES)
-    (has_regular_bodies unit) (has_regular_lines unit) (has_single_roles unit) (ap (λ k. nat_le k MOST_FORMALS) e)
+    (are_different unit.names) (has_plain_formals unit.template.kind unit.formals) (has_regular_bodies unit) (has_regular_lines unit) (has_single_roles unit) (ap (λ k. nat_le k MOST_FORMALS) e)

@@ -9,7 +9,7 @@ use Rattle.abc_tree.specs.declared.templates.Template.{Template}
 use Rattle.abc_tree.specs.declared.templates.TemplateKind.{TemplateKind}
 use Rattle.abc_tree.specs.declared.templates.TemplateKind.TheVariants as kind
 use Rattle.abc_tree.specs.declared.formulas.NameId.{NameId}
-use Rattle.abc_tree.specs.declared.formulas.Bound.{Bound, fold-Bound}
+use Rattle.abc_tree.specs.declared.formulas.Bound.{Bound, fold-Bound, out-Bound}
 use Rattle.abc_tree.specs.declared.formulas.Bound.TheOpen.{Bound-F}
 use Rattle.abc_tree.specs.declared.formulas.Expr.{Expr, fold-Expr}
 use Rattle.abc_tree.specs.declared.formulas.Expr.TheOpen.{Expr-F}
@@ -293,9 +293,20 @@ has_single_roles unit =
     && are_apart (bounds_of parts) (formal_names unit ++ shared_names unit ++ addressed parts)
     && list_all (λ name. not (is_one_of refinements name)) (texts (bounds_of parts ++ addressed parts))
 
+-- a name by itself
+abbrev pub is_alone : Bound-F Bound → Bool
+is_alone (Bound-F.One i) = true
+is_alone (Bound-F.Several parts) = false
+
+-- the formals of a command unit are names by themselves
+abbrev pub has_plain_formals : TemplateKind → List Bound → Bool
+has_plain_formals kind.Command formals = list_all (λ b. is_alone (out-Bound b)) formals
+has_plain_formals _ formals = true
+
 -- a regular unit
 unfoldable pub is_regular_unit : Routine → Bool
 is_regular_unit unit =
     is_regular_template unit.template && (length unit.formals == unit.template.places) && nat_le (length unit.formals) MOST_FORMALS
     && list_all (is_regular_bound (names_of unit)) unit.formals && list_all (λ i. nat_lt i.0 (length unit.names)) unit.shared && nat_le (length unit.names) MOST_NAMES
+    && are_different unit.names && has_plain_formals unit.template.kind unit.formals
     && has_regular_bodies unit && has_regular_lines unit && has_single_roles unit

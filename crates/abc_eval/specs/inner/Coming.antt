@@ -44,3 +44,8 @@ settled_by o before now = before
 abbrev pub settled : Result Ran RunStop → Targets → Targets → Targets
 settled (Ok r) before now = settled_by r.outcome before now
 settled (Err stop) before now = before
+
+-- For each input that may still be the reader's, what is pending now, over what is unread of it, leads to what the run from its start
+-- leads to, over all of it.
+abbrev pub LeadsOn : {L Input : Type 0} → (Input → L → Type 0) → (Input → Got Answer) → (Input → Got Answer) → L → Type 0
+LeadsOn may_be now from_start there = (input : _) → may_be input there → now input ≡ from_start input

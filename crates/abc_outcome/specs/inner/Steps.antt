@@ -1,7 +1,9 @@
 -- The steps by which an item is answered.
 use Rattle.std.specs.Prelude.{◌≡◌, ℕ, Bool, false, List, [], ◌++◌, Option, None, Some, Result, Ok, Err}
+use Rattle.abc_tree.specs.declared.commands.Command.{Command}
 use Rattle.abc_tree.specs.declared.commands.Item.{Item}
 use Rattle.abc_tree.specs.declared.commands.Item.TheVariants as item
+use Rattle.abc_tree.specs.declared.commands.Unit.{Unit as Routine}
 use Rattle.abc_parse.specs.declared.fault.ItemFault.{ItemFault}
 use Rattle.abc_parse.specs.declared.fault.ItemFault.TheVariants.{At, Memory}
 use Rattle.abc_journal.specs.declared.layout.Bounds.{Bounds}
@@ -9,24 +11,36 @@ use Rattle.abc_store.specs.declared.faults.CommitFault.{CommitFault}
 use Rattle.abc_store.specs.declared.faults.CommitFault.TheVariants as commit
 use Rattle.abc_store.specs.Commit.{Work}
 use Rattle.abc_store.specs.Workspace.{unit_of_lines}
+use Rattle.abc_record.specs.Kept.{IsKeptText}
+use Rattle.abc_inquiry.specs.declared.answering.Answered.{Answered}
+use Rattle.abc_inquiry.specs.declared.answering.Answered.TheVariants.{Drops}
+use Rattle.abc_inquiry.specs.Laws.{CanBeSpelled}
+use Rattle.abc_machine.specs.declared.outcome.RunStop.{RunStop}
+use Rattle.abc_machine.specs.declared.outcome.RunStop.TheVariants as broken
 use Rattle.abc_outcome.specs.declared.answering.Answer.{Answer}
 use Rattle.abc_outcome.specs.declared.answering.AnswerFault.{AnswerFault}
 use Rattle.abc_outcome.specs.declared.answering.AnswerFault.TheVariants as stops
 use Rattle.abc_outcome.specs.Names.{fault_name}
-use Rattle.abc_outcome.specs.Reply.{fault_line}
-use Rattle.abc_outcome.specs.Outcome.{Outcome, ends_with, on_item}
+use Rattle.abc_outcome.specs.Missing.{called_by, first_missing, line_to}
+use Rattle.abc_outcome.specs.Reply.{fault_line, missing_line}
+use Rattle.abc_outcome.specs.Outcome.{Behind, Outcome, ends_with, on_item}
 
--- what comes of an item that was read, or in which a fault stands; want of memory says nothing of it
-abbrev pub ComesOf : Bounds → ℕ → ℕ → Work → Result Item ItemFault → Outcome → Type 0
-ComesOf bounds budget k work (Ok item) out = out ≡ on_item bounds budget k work (Some item)
-ComesOf bounds budget k work (Err (At fault)) out = out ≡ ends_with work [] (fault_line k fault.line (fault_name fault.kind))
+-- what comes of an item that was read, or in which a fault stands, by what stands behind it; want of memory says nothing of it
+abbrev pub ComesOf : Bounds → ℕ → ℕ → Work → Result Item ItemFault → (Behind → Outcome) → Type 0
+ComesOf bounds budget k work (Ok item) out = (behind : Behind) → out behind ≡ on_item bounds budget k work behind (Some item)
+ComesOf bounds budget k work (Err (At fault)) out = (behind : Behind) → out behind ≡ ends_with work behind.lines [] (fault_line k fault.line (fault_name fault.kind))
 ComesOf bounds budget k work (Err Memory) out = Unit {0}
 
--- an item that is a unit is spelled by its own lines
-abbrev pub IsSpelledUnit : Item → Type 0
-IsSpelledUnit (item.Command c) = Unit {0}
-IsSpelledUnit (item.Unit u) = unit_of_lines u.lines ≡ Some u
-IsSpelledUnit (item.Environment e) = Unit {0}
+-- an item that is a unit is spelled by its own lines, and the template of a unit that is to be taken out can be spelled
+abbrev pub IsSpelledItem : Item → Type 0
+IsSpelledItem (item.Command c) = Unit {0}
+IsSpelledItem (item.Unit u) = unit_of_lines u.lines ≡ Some u
+IsSpelledItem (item.Environment asked) = CanBeSpelled asked
+
+-- the template of a unit that is to be taken out can be spelled
+abbrev pub IsSpelledAnswer : Answered → Type 0
+IsSpelledAnswer (Drops template) = IsKeptText template
+IsSpelledAnswer _ = Unit {0}
 
 -- the answer that is this reply
 abbrev pub refusing : List ℕ → Answer
@@ -37,13 +51,27 @@ abbrev pub Refuses : List ℕ → Result Answer AnswerFault → Type 0
 Refuses reply (Ok answer) = answer ≡ refusing reply
 Refuses reply (Err fault) = fault ≡ stops.Memory
 
--- what keeps a command from running is told by its reply; where nothing does, none is
+-- what keeps a command from running, as its reply line: it reaches a missing unit
+abbrev pub if_missing : List Routine → ℕ → Command → Option (List ℕ) → Option (List ℕ)
+if_missing units k c None = None
+if_missing units k c (Some t) = Some (missing_line k (line_to units t c) t)
+
+abbrev pub hindrance : List Routine → ℕ → Command → Option (List ℕ)
+hindrance units k c = if_missing units k c (first_missing units (called_by c))
+
+-- it is told by its reply; where nothing keeps the command, none is
 abbrev pub IsHindered : Option (List ℕ) → Result (Option Answer) AnswerFault → Type 0
 IsHindered None (Ok None) = Unit {0}
 IsHindered None (Ok (Some answer)) = ⊥
 IsHindered (Some line) (Ok None) = ⊥
 IsHindered (Some line) (Ok (Some answer)) = answer ≡ refusing line
 IsHindered hindrance (Err fault) = fault ≡ stops.Memory
+
+-- why an item is not answered whose run was broken off
+abbrev pub fault_of : RunStop → AnswerFault
+fault_of broken.Input = stops.Input
+fault_of broken.Long = stops.Long
+fault_of broken.Memory = stops.Memory
 
 -- What is answered after a commit: what was written, and the reply line for that.
 abbrev pub Closes : {T : Type 0} → List ℕ → List ℕ → List ℕ → List ℕ → Bool → Result T CommitFault → Result Answer AnswerFault → Type 0

@@ -2,6 +2,7 @@
 use Rattle.std.specs.Prelude.{◌≡◌, ◌≤◌, ℕ, ◌+◌, ◌-◌, Bool, false, List, [], ◌∷◌, ◌++◌, length, take, drop, nat_lt, if◌then◌else◌, Option, MatchOption}
 use Rattle.abc_num.specs.Lines.{HasNoLf, without_cr, raw_line, raw_lines}
 use Rattle.abc_num.specs.declared.lines.RawLine.{RawLine}
+use Rattle.abc_outside.specs.Lines.{Unread}
 use Rattle.abc_reader.specs.declared.line.Gathered.{Gathered}
 use Rattle.abc_reader.specs.declared.line.TheConstants.{MOST_GATHERED}
 use Rattle.abc_reader.specs.declared.line_reader.LineReader.{LineReader}
@@ -38,6 +39,31 @@ bytes_left reader left = pending_of reader ++ take (reader.bound - reader.taken)
 -- the lines that are still to come
 abbrev pub lines_left : LineReader → List ℕ → List RawLine
 lines_left reader left = raw_lines (nat_lt (reader.taken + length left) reader.bound) (bytes_left reader left)
+
+-- what a reader tells of its input
+abbrev pub unread_of : LineReader → List ℕ → Unread
+unread_of reader left = record { bytes = bytes_left reader left; ends = nat_lt (reader.taken + length left) reader.bound }
+
+-- these bytes, where the input goes on behind them
+abbrev pub going_on : List ℕ → Unread
+going_on bytes = record { bytes = bytes; ends = false }
+
+-- From the first of these bytes to the others so many were consumed.
+pub record Consumes (before after : List ℕ) (used used_new : ℕ) : Type 0 where
+  pub bytes : List ℕ
+  pub split : before ≡ bytes ++ after
+  pub count : used_new ≡ used + length bytes
+
+-- the same, and no line ends in them
+pub record ConsumesOpen (before after : List ℕ) (used used_new : ℕ) : Type 0 where
+  pub whole : Consumes before after used used_new
+  pub no_lf : HasNoLf whole.bytes
+
+-- the front of some bytes without an LF
+pub record HasFront (front : Front) : Type 0 where
+  pub bytes : List ℕ
+  pub no_lf : HasNoLf bytes
+  pub is : front ≡ front_of bytes
 
 -- The line grew by a part of the pending bytes: up to an LF, which is used too, or all of them.
 pub record TookPart (old new : List ℕ) (line_old line_new : Front) (found : Bool) : Type 0 where

@@ -4,7 +4,7 @@ use Rattle.std.specs.List.{AllByRecursion}
 use Rattle.abc_num.specs.declared.limits.TheConstants.{MOST_LINE_BYTES}
 use Rattle.abc_num.specs.declared.lines.RawLine.{RawLine}
 use Rattle.abc_layout.specs.SplitterView.{Open, Holds}
-use Rattle.abc_reader.specs.Reading.{Reading, lines_behind, ReadLines}
+use Rattle.abc_reader.specs.Reading.{Reading, IsRaw, lines_behind, ReadLines}
 use Rattle.abc_reader.specs.inner.LineReading.{pending_of, used_of, WantsLine, AsksLine}
 use Rattle.abc_reader.specs.declared.line_reader.LineReader.{LineReader}
 
@@ -23,7 +23,7 @@ IsShort line = length line.bytes ≤ MOST_LINE_BYTES
 
 -- the bytes of the line that was looked at were used, and it has no more than a line may have
 abbrev pub IsAhead : Option RawLine → LineReader → Type 0
-IsAhead ahead lines = (length (some_line ahead) ≤ used_of lines) × IfSome ahead IsShort
+IsAhead ahead lines = (length (some_line ahead) ≤ used_of lines) × IfSome ahead IsShort × IfSome ahead IsRaw
 
 -- The next line was taken, if there is one.
 pub record TookLine (old : Reading) (left : List ℕ) (new : Reading) (left_new : List ℕ) (found : Option RawLine) : Type 0 where

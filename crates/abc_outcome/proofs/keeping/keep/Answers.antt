@@ -6,8 +6,8 @@ use Rattle.abc_outcome.proofs.Commits.{commit_stops, kept_answers}
 use Rattle.abc_outcome.proofs.keeping.keep.Goals as goal
 
 pub returns : goal.returns
-returns g c later lead =
-    let ending : Ending = record { output = c.args.ending.output.items; line = c.args.ending.line.items; quits = c.args.ending.quit } in
+returns g c later left lead =
+    let ending : Ending = record { output = c.args.ending.output.items; left = left; line = c.args.ending.line.items; quits = c.args.ending.quit } in
     let found = stored c.args.store.now.bounds (work_of c.args.store.now) c.args.changes.items later in
     let done = c.commit-committed.ensures in
     kept_answers g.H.Host.tells_image g.H.Host.now g.H.Host.clock g.H.Host.stopped c.args.store.now c.commit-committed.new.self c.args.host.now c.commit-committed.new.host found c.commit-committed.result c.told.result

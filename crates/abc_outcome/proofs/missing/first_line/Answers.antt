@@ -1,4 +1,4 @@
-use Rattle.std.proofs.Common.{◌∙◌, sym, arith}
+use Rattle.std.proofs.Common.{sym, arith}
 use Rattle.abc_tree.specs.Templates.{template_text}
 use Rattle.abc_outcome.specs.inner.Lines.{is_reached}
 use Rattle.abc_outcome.proofs.CallLines.{line_found}

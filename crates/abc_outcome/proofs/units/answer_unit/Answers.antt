@@ -5,9 +5,8 @@ use Rattle.abc_store.specs.View.{work_of}
 use Rattle.abc_tree.specs.Units.{with_unit}
 use Rattle.abc_tree.specs.declared.commands.Unit.{Unit as Routine}
 use Rattle.abc_store.specs.Workspace.{IsWithinLimits, with_routine}
-use Rattle.abc_outcome.specs.Answers.{Answers}
+use Rattle.abc_outcome.specs.inner.Settling.{Settles}
 use Rattle.abc_outcome.specs.Outcome.{Outcome, accepted_line, on_stored}
-use Rattle.abc_outcome.specs.Reading.{unit_reads}
 use Rattle.abc_outcome.specs.Spelled.{are_spelled_lines}
 use Rattle.abc_outcome.proofs.Commits.{unit_kept}
 use Rattle.abc_outcome.proofs.Items.{unit_is_kept, unit_leads}
@@ -24,16 +23,15 @@ keep-requires-clause-kept g c =
     unit_is_kept c.args.unit c.in-Ok-setting.changes.items (subst AreKeptLines c.as_slice.ensures (c.are_spelled_lines.ensures.kept spelled)) c.in-Ok-setting.ensures
 
 pub returns-in-Ok-setting : goal.returns-in-Ok-setting
-returns-in-Ok-setting g c =
+returns-in-Ok-setting g c behind =
     let unit = c.args.unit in
     let work = work_of c.args.store.now in
     let later = with_routine work.kept unit in
     let there : c.has_room_for.result ≡ true = search rules in
     let room : IsWithinLimits later = c.has_room_for.ensures.room there in
-    let reads : unit_reads unit ≡ false = search rules in
     let spelled : are_spelled_lines unit.lines ≡ true = search rules in
-    subst (λ (out : Outcome). Answers g.H.Host.tells_image g.H.Host.now g.H.Host.clock g.H.Host.stopped c.args.store.now c.keep.new.store c.args.host.now c.keep.new.host c.keep.result out)
-    (ap (λ (output : List ℕ). on_stored c.args.k work (record { output = output; line = c.in-Ok.line.items; quits = false }) (stored c.args.store.now.bounds work c.in-Ok-setting.changes.items later)) c.new-in-Ok-setting.ensures.items
-    ∙ unit_kept c.args.store.now.bounds c.args.k work unit c.in-Ok-setting.changes.items c.in-Ok.line.items reads room.units spelled
+    subst (λ (out : Outcome). Settles g.H.Host.tells_image g.H.Host.now g.H.Host.clock g.H.Host.stopped c.args.store.now c.keep.new.store c.args.host.now c.keep.new.host c.keep.result behind.lines out)
+    (ap (λ (output : List ℕ). on_stored c.args.k work (record { output = output; left = behind.lines; line = c.in-Ok.line.items; quits = false }) (stored c.args.store.now.bounds work c.in-Ok-setting.changes.items later)) c.new-in-Ok-setting.ensures.items
+    ∙ unit_kept c.args.store.now.bounds c.args.k work behind unit c.in-Ok-setting.changes.items c.in-Ok.line.items room.units spelled
     (c.in-Ok.ensures ∙ ap (λ (units : List Routine). accepted_line c.args.k unit (with_unit unit units)) c.units.ensures.units) c.in-Ok-setting.ensures)
-    (c.keep.ensures later (unit_leads work.kept unit c.in-Ok-setting.changes.items c.requires.spelled c.in-Ok-setting.ensures))
+    (c.keep.ensures later behind.lines (unit_leads work.kept unit c.in-Ok-setting.changes.items c.requires.spelled c.in-Ok-setting.ensures))

@@ -1,4 +1,5 @@
 use Rattle.abc_parse.proofs.Said.{answers_slice, computed_of, fit_slice, tree_of}
+use Rattle.abc_parse.proofs.Settled.{formed_of}
 use Rattle.abc_parse.proofs.items.parse_item.Goals as goal
 
 pub parse_rows-requires-clause-fit : goal.parse_rows-requires-clause-fit
@@ -14,3 +15,9 @@ pub returns-clause-tree : goal.returns-clause-tree
 returns-clause-tree c =
     tree_of c.args.lines.now c.args.targets.now c.parse_rows.result
     (answers_slice c.args.lines.now c.as_slice.result.now c.in_ok-rows.rows c.as_slice-2.result.now c.as_slice.ensures c.in_ok-rows.ensures.rows c.as_slice-2.ensures c.args.targets.now c.parse_rows.result c.parse_rows.ensures)
+
+pub returns-clause-formed : goal.returns-clause-formed
+returns-clause-formed c =
+    formed_of c.args.lines.now c.args.targets.now c.well_formed_items.ensures c.parse_rows.result
+    (computed_of c.args.lines.now c.args.targets.now c.parse_rows.result
+    (answers_slice c.args.lines.now c.as_slice.result.now c.in_ok-rows.rows c.as_slice-2.result.now c.as_slice.ensures c.in_ok-rows.ensures.rows c.as_slice-2.ensures c.args.targets.now c.parse_rows.result c.parse_rows.ensures))

@@ -1,43 +1,32 @@
 -- Answers for act.
-use Rattle.std.proofs.Common.{rules, ap, ◌∙◌, ◌≡◌, ◌∷◌, [], ◌<◌, ◌≤◌, ◌+◌, Bool, List, drop, IfNone, IfOk, IfSome, IsErrOf, ℕ, ◌-◌, ◌*◌, length, ◌/◌, ◌%◌, true, false, nat_eq, nat_lt, ◌++◌, slice_index_or, slice_set, bit_and, bit_or, Fits, w8, w32, w64, Bor, MutBor}
-use Rattle.abc_num.specs.declared.lines.RawLine.{RawLine}
-use Rattle.abc_tree.specs.declared.commands.Unit.{Unit as Routine}
+use Rattle.std.proofs.Common.{ap, ◌∙◌, ◌≡◌, [], true}
 use Rattle.abc_tree.specs.declared.commands.ActionNode.{out-ActionNode}
 use Rattle.abc_tree.specs.declared.commands.ActionNode.TheOpen.{ActionNode-F}
-use Rattle.abc_frames.specs.Maps.{Targets as Store}
-use Rattle.abc_outside.specs.Outside.{RoseByOne}
-use Rattle.abc_meaning.specs.State.{State, after}
-use Rattle.abc_meaning.specs.Here.{Scope as Names}
-use Rattle.abc_meaning.specs.Changing.{delete, parts}
-use Rattle.abc_value.specs.declared.faults.RunFault.TheVariants.{TooDeep}
-use Rattle.abc_acts.specs.declared.halt.Halt.TheVariants.{Fault}
-use Rattle.abc_meaning.specs.Addresses.{address as address_by}
-use Rattle.abc_meaning.specs.Acts.{acts_with}
 use Rattle.abc_meaning.specs.Meaning.{meaning}
-use Rattle.abc_acts.specs.Words.{with_lines}
 use Rattle.abc_acts.specs.Views.{at as standing_at}
-use Rattle.abc_acts.specs.Views.{scope_of, state_of}
-use Rattle.abc_pending.specs.Leads.{as_flow, change_by, doing, done, first_of}
-use Rattle.abc_pending.specs.Pending.{choose, perform_all}
-use Rattle.abc_pending.specs.Steps.{state_with, stop_of, Starts, TakesNoLine}
-use Rattle.abc_pending.specs.declared.pending.Next.TheVariants.{Give, Wait}
-use Rattle.abc_pending.specs.declared.pending.Reply.TheVariants.{Went}
-use Rattle.abc_pending.specs.declared.pending.Waiting.TheVariants as waiting
-use Rattle.abc_pending.specs.declared.pending.ForAction.TheVariants.{ChangeValue}
-use Rattle.abc_pending.specs.declared.pending.Job.TheVariants.{See, Try}
-use Rattle.abc_pending.specs.declared.stopped.Stopped.TheVariants.{Halted as OnLine}
-use Rattle.abc_pending.specs.Views.{Begins, begin_of, below_next, next_weight}
-use Rattle.abc_pending.specs.Weights.{Falls, action_size, alternatives_size, expr_size, first_size, if_expr, node_size, suite_size}
+use Rattle.abc_acts.specs.Views.{state_of}
+use Rattle.abc_pending.proofs.Asking.{calls_as, node_wants}
 use Rattle.abc_pending.proofs.Reading.{node_starts, read_example_out, read_raw_out}
 use Rattle.abc_pending.proofs.performing.act.Goals as goal
 
 -- READ begins with the lines that are there
 pub returns-in-ReadExample-clause-leads : goal.returns-in-ReadExample-clause-leads
-returns-in-ReadExample-clause-leads g c units scope targets h =
+returns-in-ReadExample-clause-leads g c units scope targets input may =
     let e : out-ActionNode c.args.node.now ≡ ActionNode-F.ReadExample c.in-ReadExample.address c.in-ReadExample.example = ap out-ActionNode c.in-ReadExample.is ∙ read_example_out _ _ in
-    node_starts units scope _ _ _ (meaning units c.args.place.levels) (standing_at scope c.args.place.line) _ _ e (c.read_example.ensures.leads units scope (state_of c.args.run.now targets [] true) h)
+    node_starts units scope _ _ _ (meaning units c.args.place.levels) (standing_at scope c.args.place.line) _ _ e (c.read_example.ensures.leads units scope (state_of c.args.run.now targets [] true) input may)
 
 pub returns-in-ReadRaw-clause-leads : goal.returns-in-ReadRaw-clause-leads
-returns-in-ReadRaw-clause-leads g c units scope targets h =
+returns-in-ReadRaw-clause-leads g c units scope targets input may =
     let e : out-ActionNode c.args.node.now ≡ ActionNode-F.ReadRaw c.in-ReadRaw.address = ap out-ActionNode c.in-ReadRaw.is ∙ read_raw_out _ in
-    node_starts units scope _ _ _ (meaning units c.args.place.levels) (standing_at scope c.args.place.line) _ _ e (c.read_raw.ensures.leads units scope (state_of c.args.run.now targets [] true) h)
+    node_starts units scope _ _ _ (meaning units c.args.place.levels) (standing_at scope c.args.place.line) _ _ e (c.read_raw.ensures.leads units scope (state_of c.args.run.now targets [] true) input may)
+
+-- and it calls as they do
+pub returns-in-ReadExample-clause-calls : goal.returns-in-ReadExample-clause-calls
+returns-in-ReadExample-clause-calls g c =
+    let e : out-ActionNode c.args.node.now ≡ ActionNode-F.ReadExample c.in-ReadExample.address c.in-ReadExample.example = ap out-ActionNode c.in-ReadExample.is ∙ read_example_out _ _ in
+    calls_as _ _ _ _ _ (node_wants c.args.place.levels c.args.place.line c.args.run.now _ _ e) c.read_example.ensures.calls
+
+pub returns-in-ReadRaw-clause-calls : goal.returns-in-ReadRaw-clause-calls
+returns-in-ReadRaw-clause-calls g c =
+    let e : out-ActionNode c.args.node.now ≡ ActionNode-F.ReadRaw c.in-ReadRaw.address = ap out-ActionNode c.in-ReadRaw.is ∙ read_raw_out _ in
+    calls_as _ _ _ _ _ (node_wants c.args.place.levels c.args.place.line c.args.run.now _ _ e) c.read_raw.ensures.calls

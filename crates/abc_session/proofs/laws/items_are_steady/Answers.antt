@@ -1,4 +1,3 @@
-use Rattle.abc_num.specs.declared.limits.TheConstants.{DEFAULT_STEPS}
 use Rattle.abc_session.proofs.Items.{steady}
 use Rattle.abc_session.proofs.laws.items_are_steady.Goals as goal
 
@@ -6,4 +5,4 @@ pub returns-clause-steady : goal.returns-clause-steady
 returns-clause-steady c = steady
 
 pub returns-clause-replies : goal.returns-clause-replies
-returns-clause-replies c bounds k work lines = c.no_reply_is_empty.ensures bounds DEFAULT_STEPS k work lines
+returns-clause-replies c bounds steps k work later lines behind reply left quits = c.no_reply_is_empty.ensures bounds steps k work later lines behind reply left quits

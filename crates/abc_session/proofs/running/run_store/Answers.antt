@@ -24,9 +24,9 @@ use Rattle.abc_session.proofs.running.run_store.Goals as goal
 
 -- while the store is opened every stop leaves the work of the start, and nothing is said
 opening_stops : (g : Over) (c : After-begin g) → g.H.Host.tells_image → BeginsQuiet g.H.Host.clock g.H.Host.stopped c.args.host.now (g.H.Host.now c.args.host.now).image → (work : Work) → IsStart (g.H.Host.now c.args.host.now).image work
-    → Leaves g.H.Host.clock g.H.Host.stopped c.args.host.now c.begin.new.host (IsSessionPoint work (session_of c.args.b.now work (g.H.Host.now c.args.host.now).left) (g.H.Host.now c.args.host.now).said)
+    → Leaves g.H.Host.clock g.H.Host.stopped c.args.host.now c.begin.new.host (IsSessionPoint work (session_of c.args.b.now c.args.steps work (g.H.Host.now c.args.host.now).left) (g.H.Host.now c.args.host.now).said)
 opening_stops g c told quiet work start =
-    opening_points g.H.Host.clock g.H.Host.stopped c.args.host.now c.begin.new.host work (session_of c.args.b.now work (g.H.Host.now c.args.host.now).left) (g.H.Host.now c.args.host.now).said
+    opening_points g.H.Host.clock g.H.Host.stopped c.args.host.now c.begin.new.host work (session_of c.args.b.now c.args.steps work (g.H.Host.now c.args.host.now).left) (g.H.Host.now c.args.host.now).said
     (c.begin.ensures.stops told quiet work.kept start.kept)
 
 opening_leaves : (g : Over) (c : After-begin g) → g.H.Host.tells_image → BeginsQuiet g.H.Host.clock g.H.Host.stopped c.args.host.now (g.H.Host.now c.args.host.now).image → (work : Work) → IsStart (g.H.Host.now c.args.host.now).image work
@@ -46,21 +46,21 @@ of_run g c P told work start =
 
 session_stops : (g : Over) (c : After-serve_all g) → g.H.Host.tells_image → g.H.Host.tells_said → g.H.Host.tells_input → BeginsQuiet g.H.Host.clock g.H.Host.stopped c.args.host.now (g.H.Host.now c.args.host.now).image
     → (work : Work) → IsStart (g.H.Host.now c.args.host.now).image work
-    → Leaves g.H.Host.clock g.H.Host.stopped c.args.host.now c.serve_all.new.host (IsSessionPoint work (session_of c.args.b.now work (g.H.Host.now c.args.host.now).left) (g.H.Host.now c.args.host.now).said)
+    → Leaves g.H.Host.clock g.H.Host.stopped c.args.host.now c.serve_all.new.host (IsSessionPoint work (session_of c.args.b.now c.args.steps work (g.H.Host.now c.args.host.now).left) (g.H.Host.now c.args.host.now).said)
 session_stops g c told told_said told_input quiet work start =
     run_after g.H.Host.clock g.H.Host.stopped c.args.host.now c.begin.new.host c.serve_all.new.host _ _
-    (opening_points g.H.Host.clock g.H.Host.stopped c.args.host.now c.begin.new.host work (session_of c.args.b.now work (g.H.Host.now c.args.host.now).left) (g.H.Host.now c.args.host.now).said
+    (opening_points g.H.Host.clock g.H.Host.stopped c.args.host.now c.begin.new.host work (session_of c.args.b.now c.args.steps work (g.H.Host.now c.args.host.now).left) (g.H.Host.now c.args.host.now).said
     (c.begin.ensures.stops told quiet work.kept start.kept))
-    (of_run g c (λ b w l t. Leaves g.H.Host.clock g.H.Host.stopped c.begin.new.host c.serve_all.new.host (IsSessionPoint w (session_of b w l) t)) told work start
+    (of_run g c (λ b w l t. Leaves g.H.Host.clock g.H.Host.stopped c.begin.new.host c.serve_all.new.host (IsSessionPoint w (session_of b c.args.steps w l) t)) told work start
     (c.serve_all.ensures.stops told told_said told_input (c.in-Ok.ensures.quiet told quiet))) (λ i s p. p)
 
 asked_in_run : (g : Over) (c : After-serve_all g) → g.H.Host.tells_image → g.H.Host.tells_said → g.H.Host.tells_input → (work : Work) → IsStart (g.H.Host.now c.args.host.now).image work
-    → Asked (AsksSettled c.args.b.now work (g.H.Host.now c.args.host.now).left (length (g.H.Host.now c.args.host.now).said)) (g.H.Host.now c.args.host.now).asked (g.H.Host.now c.serve_all.new.host).asked
+    → Asked (AsksSettled c.args.b.now c.args.steps work (g.H.Host.now c.args.host.now).left (length (g.H.Host.now c.args.host.now).said)) (g.H.Host.now c.args.host.now).asked (g.H.Host.now c.serve_all.new.host).asked
 asked_in_run g c told told_said told_input work start =
     let old = g.H.Host.now c.args.host.now in
     let new = g.H.Host.now c.serve_all.new.host in
-    subst (λ (a : List (ℕ × ℕ)). Asked (AsksSettled c.args.b.now work old.left (length old.said)) a new.asked) c.begin.ensures.rest.asked
-    (of_run g c (λ b w l t. Asked (AsksSettled b w l (length t)) (g.H.Host.now c.begin.new.host).asked new.asked) told work start (c.serve_all.ensures.asked told_said told_input))
+    subst (λ (a : List (ℕ × ℕ)). Asked (AsksSettled c.args.b.now c.args.steps work old.left (length old.said)) a new.asked) c.begin.ensures.rest.asked
+    (of_run g c (λ b w l t. Asked (AsksSettled b c.args.steps w l (length t)) (g.H.Host.now c.begin.new.host).asked new.asked) told work start (c.serve_all.ensures.asked told_said told_input))
 
 pub returns-in-Err-StoreFault-clause-stops : goal.returns-in-Err-StoreFault-clause-stops
 returns-in-Err-StoreFault-clause-stops g c told told_said told_input quiet work start = opening_stops g (goal.at.returns-in-Err-StoreFault-clause-stops g c).After-begin told quiet work start
@@ -84,9 +84,9 @@ returns-in-Ok-serve_all-clause-complete g c told told_said told_input _ =
     record {
       start = store;
       is_start = start;
-      said = of_run g at (λ b w l t. new.said ≡ t ++ output (session_of b w l)) told store start (c.in-Ok-serve_all.ensures.said told_said told_input);
-      holds = of_run g at (λ b w l t. Holds new.image (last_work w (session_of b w l))) told store start (subst (λ w. Holds new.image w) (c.in-Ok-serve_all.ensures.work told_input) (c.in-Ok-serve_all.ensures.holds told));
-      ended = same_input (session_of c.args.b.now store old.left).ending c.args.b.now.input old (g.H.Host.now c.begin.new.host) new c.begin.ensures.rest.left (of_run g at (λ b w l t. HasEnded (session_of b w l).ending b.input (g.H.Host.now c.begin.new.host) new) told store start (c.in-Ok-serve_all.ensures.ended told_input));
+      said = of_run g at (λ b w l t. new.said ≡ t ++ output (session_of b c.args.steps w l)) told store start (c.in-Ok-serve_all.ensures.said told_said told_input);
+      holds = of_run g at (λ b w l t. Holds new.image (last_work w (session_of b c.args.steps w l))) told store start (subst (λ w. Holds new.image w) (c.in-Ok-serve_all.ensures.work told_input) (c.in-Ok-serve_all.ensures.holds told));
+      ended = same_input (session_of c.args.b.now c.args.steps store old.left).ending c.args.b.now.input old (g.H.Host.now c.begin.new.host) new c.begin.ensures.rest.left (of_run g at (λ b w l t. HasEnded (session_of b c.args.steps w l).ending b.input (g.H.Host.now c.begin.new.host) new) told store start (c.in-Ok-serve_all.ensures.ended told_input));
     }
 
 pub returns-in-Err-StoreFault-clause-stands : goal.returns-in-Err-StoreFault-clause-stands
@@ -95,7 +95,7 @@ returns-in-Err-StoreFault-clause-stands g c told told_said told_input quiet work
     record {
       waiting = search rules;
       between = search rules;
-      broken = λ _. idle_broken work (session_of c.args.b.now work old.left) old.said (g.H.Host.now c.begin.new.host).said (g.H.Host.stopped c.begin.new.host (g.H.Host.clock c.begin.new.host)) c.begin.ensures.rest.said
+      broken = λ _. idle_broken work (session_of c.args.b.now c.args.steps work old.left) old.said (g.H.Host.now c.begin.new.host).said (g.H.Host.stopped c.begin.new.host (g.H.Host.clock c.begin.new.host)) c.begin.ensures.rest.said
           (opening_leaves g (goal.at.returns-in-Err-StoreFault-clause-stands g c).After-begin told quiet work start);
       cut_short = search rules;
     }
@@ -105,7 +105,7 @@ returns-in-Err-Memory-clause-stands g c told told_said told_input quiet work sta
     let old = g.H.Host.now c.args.host.now in
     record {
       waiting = search rules;
-      between = λ _. idle_between work (session_of c.args.b.now work old.left) old.said (g.H.Host.now c.begin.new.host).said (g.H.Host.stopped c.begin.new.host (g.H.Host.clock c.begin.new.host)) c.begin.ensures.rest.said
+      between = λ _. idle_between work (session_of c.args.b.now c.args.steps work old.left) old.said (g.H.Host.now c.begin.new.host).said (g.H.Host.stopped c.begin.new.host (g.H.Host.clock c.begin.new.host)) c.begin.ensures.rest.said
           (opening_leaves g (goal.at.returns-in-Err-Memory-clause-stands g c).After-begin told quiet work start);
       broken = search rules;
       cut_short = search rules;
@@ -119,7 +119,7 @@ returns-clause-asked g c told told_said told_input work start = asked_in_run g (
 
 pub returns-clause-waits : goal.returns-clause-waits
 returns-clause-waits g c told told_input work start ends =
-    of_run g (goal.at.returns-clause-waits g c).After-serve_all (λ b w l t. (session_of b w l).ending ≡ waiting) told work start
+    of_run g (goal.at.returns-clause-waits g c).After-serve_all (λ b w l t. (session_of b c.args.steps w l).ending ≡ waiting) told work start
     (c.serve_all.ensures.waits told_input (c.in-Err.is ∙ ap (λ x. Err x) (c.status_of.ensures.too_long ends)))
 
 pub returns-clause-stands : goal.returns-clause-stands
@@ -127,14 +127,14 @@ returns-clause-stands g c told told_said told_input quiet work start =
     let at = (goal.at.returns-clause-stands g c).After-serve_all in
     let new = g.H.Host.now c.serve_all.new.host in
     record {
-      waiting = λ ends. of_run g at (λ b w l t. IsWaiting b w l t new (g.H.Host.stopped c.serve_all.new.host (g.H.Host.clock c.serve_all.new.host))) told work start
+      waiting = λ ends. of_run g at (λ b w l t. IsWaiting b c.args.steps w l t new (g.H.Host.stopped c.serve_all.new.host (g.H.Host.clock c.serve_all.new.host))) told work start
           (c.serve_all.ensures.waiting told told_said told_input (c.in-Ok.ensures.quiet told quiet)
           (either_stop c.serve_all.result c.in-Err.stop session.Input session.Long (c.status_of.result ≡ INPUT_FAULT) (c.status_of.result ≡ INPUT_TOO_LONG) c.in-Err.is c.status_of.ensures.input_fault c.status_of.ensures.too_long ends));
-      between = λ ends. of_run g at (λ b w l t. IsBetween OpensTo (works w (session_of b w l)) (replies (session_of b w l)) t new.said (g.H.Host.stopped c.serve_all.new.host (g.H.Host.clock c.serve_all.new.host))) told work start
+      between = λ ends. of_run g at (λ b w l t. IsBetween OpensTo (works w (session_of b c.args.steps w l)) (replies (session_of b c.args.steps w l)) t new.said (g.H.Host.stopped c.serve_all.new.host (g.H.Host.clock c.serve_all.new.host))) told work start
           (c.serve_all.ensures.between told told_said told_input (c.in-Ok.ensures.quiet told quiet) (c.in-Err.is ∙ ap (λ x. Err x) (c.status_of.ensures.memory ends)));
-      broken = λ ends. of_run g at (λ b w l t. IsBroken OpensTo (works w (session_of b w l)) (replies (session_of b w l)) t new.said (g.H.Host.stopped c.serve_all.new.host (g.H.Host.clock c.serve_all.new.host))) told work start
+      broken = λ ends. of_run g at (λ b w l t. IsBroken OpensTo (works w (session_of b c.args.steps w l)) (replies (session_of b c.args.steps w l)) t new.said (g.H.Host.stopped c.serve_all.new.host (g.H.Host.clock c.serve_all.new.host))) told work start
           (c.serve_all.ensures.broken told told_said told_input (c.in-Ok.ensures.quiet told quiet) (c.in-Err.is ∙ ap (λ x. Err x) (c.status_of.ensures.store_fault ends)));
-      cut_short = λ ends. of_run g at (λ b w l t. IsCutShort OpensTo (works w (session_of b w l)) (replies (session_of b w l)) t new.said (g.H.Host.stopped c.serve_all.new.host (g.H.Host.clock c.serve_all.new.host))) told work start
+      cut_short = λ ends. of_run g at (λ b w l t. IsCutShort OpensTo (works w (session_of b c.args.steps w l)) (replies (session_of b c.args.steps w l)) t new.said (g.H.Host.stopped c.serve_all.new.host (g.H.Host.clock c.serve_all.new.host))) told work start
           (c.serve_all.ensures.cut_short told told_said told_input (c.in-Ok.ensures.quiet told quiet) (c.in-Err.is ∙ ap (λ x. Err x) (c.status_of.ensures.sink_fault ends)));
     }
 

@@ -1,50 +1,35 @@
-use Rattle.std.proofs.Common.{rules, ◌≡◌, ◌∙◌, List, ℕ, length, sym, ap, subst}
-use Rattle.abc_journal.specs.Journal.{BeginsQuiet}
-use Rattle.abc_turns.specs.Session.{last_work, waiting}
-use Rattle.abc_reader.specs.Asking.{Asked}
-use Rattle.std.specs.Prelude.{Err}
-use Rattle.abc_store.specs.Opening.{Opens}
-use Rattle.abc_store.specs.Commit.{Work, Holds}
-use Rattle.abc_session.specs.declared.status.TheConstants.{NOT_A_STORE}
-use Rattle.abc_session.specs.Session.{session_of}
-use Rattle.abc_session.specs.Run.{IsStart}
-use Rattle.abc_session.specs.Serving.{IsStill}
-use Rattle.abc_session.specs.Settled.{AsksSettled}
+use Rattle.std.proofs.Common.{rules, ◌≡◌, List, ℕ, inl, inr, refl, sym, ap, subst}
+use Rattle.std.specs.Prelude.{None, map}
 use Rattle.abc_reader.proofs.Asks.{none_asked}
-use Rattle.abc_session.proofs.Broken.{idle_broken}
-use Rattle.abc_session.proofs.Runs.{not_wrong, still_point, choice_points, run_points, quiet_after, last_opens, one_start, same_choice, choice_now, same_complete, same_stands}
-use Rattle.abc_session.proofs.running.run_within.Given.{Over}
-use Rattle.abc_session.proofs.running.run_within.Goals.{After-choose}
+use Rattle.abc_session.specs.Session.{session_of}
+use Rattle.abc_session.specs.Serving.{OpensTo}
+use Rattle.abc_session.specs.Run.{store_in, store_named, steps_in, steps_named, IsRun}
+use Rattle.abc_session.proofs.Broken.{idle_between}
+use Rattle.abc_session.proofs.Runs.{still_point}
 use Rattle.abc_session.proofs.running.run_within.Goals as goal
 
--- nothing is pending after the choice, and the image gives the same start
-chosen_quiet : (g : Over) (c : After-choose g) → IsStill g.H.Host.clock g.H.Host.stopped c.args.host.now (g.H.Host.now c.args.host.now).image → BeginsQuiet g.H.Host.clock g.H.Host.stopped c.choose.new.self (g.H.Host.now c.choose.new.self).image
-chosen_quiet g c still =
-    quiet_after g.H.Host.clock g.H.Host.stopped c.args.host.now c.choose.new.self (g.H.Host.now c.args.host.now).image (g.H.Host.now c.choose.new.self).image still c.choose.ensures.rest.image c.choose.ensures.stop
+-- the words name a store
+pub returns-in-Ok-Run : goal.returns-in-Ok-Run
+returns-in-Ok-Run g c =
+    let words : List (List ℕ) = map (λ word. word.now) c.args.words.now in
+    let reads = rw c.in-Ok-Run.field-0-is at c.in-Ok-Run.ensures.read in
+    record {
+      run = subst (λ n. IsRun g.H.Host.tells_chosen g.H.Host.tells_image g.H.Host.tells_input g.H.Host.tells_said g.H.Host.now g.H.Host.clock g.H.Host.stopped c.args.b.now words n c.args.host.now c.run_named.new.host c.run_named.result)
+          (sym (ap steps_in reads)) (c.run_named.ensures.run words reads);
+    }
 
-chosen_start : (g : Over) (c : After-choose g) (work : Work) → IsStart (g.H.Host.now c.args.host.now).image work → IsStart (g.H.Host.now c.choose.new.self).image work
-chosen_start g c work start = subst (λ (i : List ℕ). IsStart i work) (sym c.choose.ensures.rest.image) start
-
--- what is so of the run on the store that was chosen is so of the whole run
-of_choice : (g : Over) (c : After-choose g) (P : List ℕ → List ℕ → Type 0) → P (g.H.Host.now c.choose.new.self).left (g.H.Host.now c.choose.new.self).said → P (g.H.Host.now c.args.host.now).left (g.H.Host.now c.args.host.now).said
-of_choice g c P =
-    same_choice P (g.H.Host.now c.args.host.now).left (g.H.Host.now c.choose.new.self).left (g.H.Host.now c.args.host.now).said (g.H.Host.now c.choose.new.self).said c.choose.ensures.rest.left c.choose.ensures.rest.said
-
--- a choice that failed asks for nothing
-none_asked_by : (g : Over) (c : After-choose g) (work : Work)
-    → Asked (AsksSettled c.args.b.now work (g.H.Host.now c.args.host.now).left (length (g.H.Host.now c.args.host.now).said)) (g.H.Host.now c.args.host.now).asked (g.H.Host.now c.choose.new.self).asked
-none_asked_by g c work =
+-- they name a made input, which is not served; or they don't read; or there is no memory to read them: nothing is done
+pub returns-in-Ok-Make : goal.returns-in-Ok-Make
+returns-in-Ok-Make g c =
     let old = g.H.Host.now c.args.host.now in
-    subst (λ (a : List (ℕ × ℕ)). Asked (AsksSettled c.args.b.now work old.left (length old.said)) old.asked a) (sym c.choose.ensures.rest.asked) (none_asked _ _)
-
-pub returns-in_default : goal.returns-in_default
-returns-in_default g c =
-    let old = g.H.Host.now c.args.host.now in
+    let words : List (List ℕ) = map (λ word. word.now) c.args.words.now in
+    let none : store_named words ≡ None = ap store_in (rw c.in-Ok-Make.field-0-is at c.in-Ok-Make.ensures.read) in
     record {
       run = record {
         complete = search rules;
         status_is = search rules;
-        usage = search rules;
+        usage = λ is. none;
+        none_named = λ none. inl refl;
         cause = search rules;
         refused = search rules;
         waits = search rules;
@@ -53,26 +38,32 @@ returns-in_default g c =
         usage_nothing = search rules;
         untouched = search rules;
         untouched_stops = search rules;
-        chosen = search rules;
+        chosen = λ told named is. absurd (cc (none, is));
         asked = λ told told_said told_input work start. none_asked _ _;
         asks_rise = search rules;
-        stands = search rules;
+        stands = λ told told_said told_input still work start. inr (record {
+          waiting = search rules;
+          between = search rules;
+          broken = search rules;
+          cut_short = search rules;
+        });
         headline = λ told told_said told_input still work start.
-            still_point g.H.Host.clock g.H.Host.stopped c.args.host.now old.image old.said work (session_of c.args.b.now work old.left) still (g.met.H.Host.says_now c.args.host.now) start;
+            still_point g.H.Host.clock g.H.Host.stopped c.args.host.now old.image old.said work (session_of c.args.b.now (steps_named words) work old.left) still (g.met.H.Host.says_now c.args.host.now) start;
         last = search rules;
       };
     }
 
-pub returns-in-Err-Store : goal.returns-in-Err-Store
-returns-in-Err-Store g c =
+pub returns-in-Err-Usage : goal.returns-in-Err-Usage
+returns-in-Err-Usage g c =
     let old = g.H.Host.now c.args.host.now in
-    let mid = g.H.Host.now c.choose.new.self in
-    let chosen = (goal.at.returns-in-Err-Store g c).After-choose in
+    let words : List (List ℕ) = map (λ word. word.now) c.args.words.now in
+    let none : store_named words ≡ None = ap store_in (c.read_words.ensures.usage (search rules)) in
     record {
       run = record {
         complete = search rules;
         status_is = search rules;
-        usage = search rules;
+        usage = λ is. none;
+        none_named = λ none. inl refl;
         cause = search rules;
         refused = search rules;
         waits = search rules;
@@ -81,64 +72,50 @@ returns-in-Err-Store g c =
         usage_nothing = search rules;
         untouched = search rules;
         untouched_stops = search rules;
-        chosen = search rules;
-        asked = λ told told_said told_input work start. none_asked_by g chosen work;
+        chosen = λ told named is. absurd (cc (none, is));
+        asked = λ told told_said told_input work start. none_asked _ _;
         asks_rise = search rules;
-        stands = λ told told_said told_input still work start. record {
+        stands = λ told told_said told_input still work start. inr (record {
           waiting = search rules;
           between = search rules;
-          broken = λ _. idle_broken work (session_of c.args.b.now work old.left) old.said mid.said (g.H.Host.stopped c.choose.new.self (g.H.Host.clock c.choose.new.self)) c.choose.ensures.rest.said
-              (choice_now g.H.Host.clock g.H.Host.stopped c.args.host.now c.choose.new.self old.image work still start c.choose.ensures.stop);
+          broken = search rules;
           cut_short = search rules;
-        };
+        });
         headline = λ told told_said told_input still work start.
-            choice_points g.H.Host.clock g.H.Host.stopped c.args.host.now old.image old.said work (session_of c.args.b.now work old.left)
-            still (g.met.H.Host.says_now c.args.host.now) start c.choose.new.self c.choose.ensures.time c.choose.ensures.stop;
+            still_point g.H.Host.clock g.H.Host.stopped c.args.host.now old.image old.said work (session_of c.args.b.now (steps_named words) work old.left) still (g.met.H.Host.says_now c.args.host.now) start;
         last = search rules;
       };
     }
 
-pub returns-in-Ok : goal.returns-in-Ok
-returns-in-Ok g c =
+pub returns-in-Err-Memory : goal.returns-in-Err-Memory
+returns-in-Err-Memory g c =
     let old = g.H.Host.now c.args.host.now in
-    let mid = g.H.Host.now c.choose.new.self in
-    let new = g.H.Host.now c.run_store.new.host in
-    let chosen = (goal.at.returns-in-Ok g c).After-choose in
+    let words : List (List ℕ) = map (λ word. word.now) c.args.words.now in
     record {
       run = record {
-        complete = λ told told_said told_input is. same_complete c.args.b.now old mid new c.choose.ensures.rest.image c.choose.ensures.rest.left c.choose.ensures.rest.said (c.run_store.ensures.complete told told_said told_input is);
+        complete = search rules;
         status_is = search rules;
         usage = search rules;
+        none_named = λ none. inr refl;
         cause = search rules;
         refused = search rules;
-        waits = λ told told_input work start is. of_choice g chosen (λ l t. (session_of c.args.b.now work l).ending ≡ waiting) (c.run_store.ensures.waits told told_input work (chosen_start g chosen work start) is);
+        waits = search rules;
         most_taken = search rules;
-        completeness = λ told kept right none.
-            let no_wrong : c.run_store.result ≡ NOT_A_STORE → ⊥ = λ is.
-            let found = c.run_store.ensures.cause.not_a_store told is in
-            not_wrong c.images_open_to_one.ensures.one old.image kept found.0 right (subst (λ (i : List ℕ). Opens i (Err found.0)) c.choose.ensures.rest.image found.1) in
-            search rules;
+        completeness = search rules;
         usage_nothing = search rules;
         untouched = search rules;
         untouched_stops = search rules;
-        chosen = search rules;
-        asked = λ told told_said told_input work start.
-            subst (λ (a : List (ℕ × ℕ)). Asked (AsksSettled c.args.b.now work old.left (length old.said)) a new.asked) c.choose.ensures.rest.asked
-            (of_choice g chosen (λ l t. Asked (AsksSettled c.args.b.now work l (length t)) mid.asked new.asked) (c.run_store.ensures.asked told told_said told_input work (chosen_start g chosen work start)));
+        chosen = λ told named is. inr (refl, inr (inr refl));
+        asked = λ told told_said told_input work start. none_asked _ _;
         asks_rise = search rules;
-        stands = λ told told_said told_input still work start.
-            same_stands c.args.b.now work old mid new (g.H.Host.stopped c.run_store.new.host (g.H.Host.clock c.run_store.new.host)) c.run_store.result c.choose.ensures.rest.left c.choose.ensures.rest.said
-            (c.run_store.ensures.stands told told_said told_input (chosen_quiet g chosen still) work (chosen_start g chosen work start));
+        stands = λ told told_said told_input still work start. inr (record {
+          waiting = search rules;
+          between = λ is. idle_between work (session_of c.args.b.now (steps_named words) work old.left) old.said old.said (g.H.Host.stopped c.args.host.now (g.H.Host.clock c.args.host.now)) refl (λ i s stop. subst (λ (m : List ℕ). OpensTo m work) (sym (still i s stop)) start.kept);
+          broken = search rules;
+          cut_short = search rules;
+        });
         headline = λ told told_said told_input still work start.
-            run_points g.H.Host.clock g.H.Host.stopped c.args.host.now old.image old.said work (session_of c.args.b.now work old.left)
-            still (g.met.H.Host.says_now c.args.host.now) start c.choose.new.self c.run_store.new.host mid.image mid.said (session_of c.args.b.now work mid.left) c.choose.ensures.time c.choose.ensures.stop
-            (ap (λ (l : List ℕ). session_of c.args.b.now work l) c.choose.ensures.rest.left) c.choose.ensures.rest.said
-            (c.run_store.ensures.stops told told_said told_input (chosen_quiet g chosen still) work (chosen_start g chosen work start));
-        last = λ told told_said told_input still is work start i s stop.
-            let all = c.run_store.ensures.complete told told_said told_input is in
-            let same : all.start ≡ work = one_start c.images_open_to_one.ensures.one mid.image all.start work all.is_start (chosen_start g chosen work start) in
-            let last : last_work all.start (session_of c.args.b.now all.start mid.left) ≡ last_work work (session_of c.args.b.now work old.left) =
-            ap (λ w. last_work w (session_of c.args.b.now w mid.left)) same ∙ ap (λ (l : List ℕ). last_work work (session_of c.args.b.now work l)) c.choose.ensures.rest.left in
-            last_opens new.image i _ (subst (λ w. Holds new.image w) last all.holds) (c.run_store.ensures.quiet told (chosen_quiet g chosen still) is i s stop);
+            still_point g.H.Host.clock g.H.Host.stopped c.args.host.now old.image old.said work (session_of c.args.b.now (steps_named words) work old.left) still (g.met.H.Host.says_now c.args.host.now) start;
+        last = search rules;
       };
     }

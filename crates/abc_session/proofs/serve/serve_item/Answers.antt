@@ -1,30 +1,60 @@
-use Rattle.std.proofs.Common.{◌∙◌, sym, ap}
+use Rattle.std.proofs.Common.{◌<◌, ◌∙◌, ◌++◌, List, ℕ, length, take, refl, sym, ap, subst}
 use Rattle.abc_outside.specs.Stop.{Leaves, IsQuiet}
 use Rattle.abc_turns.proofs.Points.{commit_then_say}
-use Rattle.abc_outcome.specs.Outcome.{Outcome}
 use Rattle.abc_store.specs.View.{work_of}
+use Rattle.abc_outcome.specs.Answers.{behind_at, work_in, CameTo}
 use Rattle.abc_session.specs.Session.{outcome}
-use Rattle.abc_session.specs.Serving.{OpensTo, IsItemStop}
+use Rattle.abc_session.specs.Serving.{OpensTo, reply_in, IsItemStop}
+use Rattle.abc_session.proofs.Places.{came_here}
 use Rattle.abc_session.proofs.Saying.{saying_stops}
 use Rattle.abc_session.proofs.serve.serve_item.Given.{Over}
 use Rattle.abc_session.proofs.serve.serve_item.Goals.{After-say_all}
 use Rattle.abc_session.proofs.serve.serve_item.Goals as goal
 
+-- what the item came to, where its reply is said
+answered : (g : Over) (c : After-say_all g) → g.H.Host.tells_input
+    → CameTo (outcome c.args.store.now.bounds c.args.steps c.args.k (work_of c.args.store.now) c.args.item.now) c.args.reader.now (g.H.Host.now c.args.host.now).left c.answer_item.new.reader (g.H.Host.now c.say_all.new.host).left
+    (work_of c.answer_item.new.store) c.in-Ok.answered
+answered g c told =
+    subst (λ (l : List ℕ). CameTo (outcome c.args.store.now.bounds c.args.steps c.args.k (work_of c.args.store.now) c.args.item.now) c.args.reader.now (g.H.Host.now c.args.host.now).left c.answer_item.new.reader l
+    (work_of c.answer_item.new.store) c.in-Ok.answered) (sym c.say_all.ensures.rest.left) (c.in-Ok.ensures.came told)
+
 -- the commit, and then the saying
-served : (g : Over) (c : After-say_all g) → g.H.Host.tells_image → g.H.Host.tells_said → IsQuiet g.H.Host.clock g.H.Host.stopped c.args.host.now (g.H.Host.now c.args.host.now).image
+served : (g : Over) (c : After-say_all g) → g.H.Host.tells_image → g.H.Host.tells_said → g.H.Host.tells_input → IsQuiet g.H.Host.clock g.H.Host.stopped c.args.host.now (g.H.Host.now c.args.host.now).image
     → Leaves g.H.Host.clock g.H.Host.stopped c.args.host.now c.say_all.new.host
-    (IsItemStop c.args.store.now.bounds c.args.k (work_of c.args.store.now) c.args.item.now (g.H.Host.now c.args.host.now).said)
-served g c told told_said quiet =
+    (IsItemStop (work_of c.args.store.now) (outcome c.args.store.now.bounds c.args.steps c.args.k (work_of c.args.store.now) c.args.item.now (behind_at c.args.reader.now (g.H.Host.now c.args.host.now).left)) (g.H.Host.now c.args.host.now).said)
+served g c told told_said told_input quiet =
     let work = work_of c.args.store.now in
-    let out = outcome c.args.store.now.bounds c.args.k work c.args.item.now in
-    let is = c.in-Ok.ensures.outcome in
-    commit_then_say g.H.Host.clock g.H.Host.stopped OpensTo c.args.host.now c.answer_item.new.host c.say_all.new.host work out.work out.reply (g.H.Host.now c.args.host.now).said
-    (c.answer_item.ensures.stops told quiet)
-    (saying_stops g.H.Host.clock g.H.Host.stopped c.answer_item.new.host c.say_all.new.host (g.H.Host.now c.answer_item.new.host).image (g.H.Host.now c.args.host.now).said (g.H.Host.now c.answer_item.new.host).said c.bytes.result.now out.reply (work_of c.answer_item.new.store) out.work
-    (ap (λ (o : Outcome). o.reply) is ∙ sym c.bytes.ensures) c.answer_item.ensures.rest.said (sym (ap (λ (o : Outcome). o.work) is)) (c.in-Ok.ensures.holds told) (c.in-Ok.ensures.quiet told quiet) (c.say_all.ensures.stops told_said))
+    let old = g.H.Host.now c.args.host.now in
+    let mid = g.H.Host.now c.answer_item.new.host in
+    let out = outcome c.args.store.now.bounds c.args.steps c.args.k work c.args.item.now (behind_at c.args.reader.now old.left) in
+    let is = came_here (outcome c.args.store.now.bounds c.args.steps c.args.k work c.args.item.now) c.args.reader.now c.answer_item.new.reader old.left mid.left (work_of c.answer_item.new.store) c.in-Ok.answered (c.in-Ok.ensures.came told_input) in
+    commit_then_say g.H.Host.clock g.H.Host.stopped OpensTo c.args.host.now c.answer_item.new.host c.say_all.new.host work (work_in work out) (reply_in out) old.said
+    (c.answer_item.ensures.stops told told_input quiet)
+    (saying_stops g.H.Host.clock g.H.Host.stopped c.answer_item.new.host c.say_all.new.host mid.image old.said mid.said c.bytes.result.now (reply_in out) (work_of c.answer_item.new.store) (work_in work out)
+    (ap reply_in is ∙ sym c.bytes.ensures) c.answer_item.ensures.said (sym (ap (work_in work) is)) (c.in-Ok.ensures.holds told) (c.in-Ok.ensures.quiet told quiet) (c.say_all.ensures.stops told_said))
 
 pub returns-in-Ok-say_all-clause-stops : goal.returns-in-Ok-say_all-clause-stops
-returns-in-Ok-say_all-clause-stops g c told told_said quiet = served g (goal.at.returns-in-Ok-say_all-clause-stops g c).After-say_all told told_said quiet
+returns-in-Ok-say_all-clause-stops g c told told_said told_input quiet = served g (goal.at.returns-in-Ok-say_all-clause-stops g c).After-say_all told told_said told_input quiet
 
 pub returns-clause-stops : goal.returns-clause-stops
-returns-clause-stops g c told told_said quiet = served g (goal.at.returns-clause-stops g c).After-say_all told told_said quiet
+returns-clause-stops g c told told_said told_input quiet = served g (goal.at.returns-clause-stops g c).After-say_all told told_said told_input quiet
+
+pub returns-in-Ok-say_all-clause-served : goal.returns-in-Ok-say_all-clause-served
+returns-in-Ok-say_all-clause-served g c told_input = record {
+  answer = c.in-Ok.answered;
+  answered = answered g (goal.at.returns-in-Ok-say_all-clause-served g c).After-say_all told_input;
+  quits = refl;
+  said_is = λ told_said. c.in-Ok-say_all.ensures.all told_said ∙ ap (λ (l : List ℕ). l ++ c.bytes.result.now) c.answer_item.ensures.said ∙ ap (λ (l : List ℕ). (g.H.Host.now c.args.host.now).said ++ l) c.bytes.ensures;
+}
+
+pub returns-clause-cut : goal.returns-clause-cut
+returns-clause-cut g c told_said told_input fault =
+    let part = c.in-Err-say_all.ensures.part told_said in
+    record {
+      answer = c.in-Ok.answered;
+      answered = answered g (goal.at.returns-clause-cut g c).After-say_all told_input;
+      count = part.0;
+      short = subst (λ (l : List ℕ). part.0 < length l) c.bytes.ensures part.1;
+      said_is = part.2 ∙ ap (λ (l : List ℕ). l ++ take part.0 c.bytes.result.now) c.answer_item.ensures.said ∙ ap (λ (l : List ℕ). (g.H.Host.now c.args.host.now).said ++ take part.0 l) c.bytes.ensures;
+    }

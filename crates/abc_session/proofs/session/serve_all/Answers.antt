@@ -1,4 +1,4 @@
-use Rattle.std.proofs.Common.{rules, ◌≡◌, ◌∙◌, suc, length, refl, ap, subst}
+use Rattle.std.proofs.Common.{rules, ◌∙◌, suc, length, refl, ap, subst}
 use Rattle.std.proofs.lemmas.Bool.{false_from_ne_true}
 use Rattle.abc_journal.specs.declared.layout.Bounds.{Bounds}
 use Rattle.abc_outside.specs.Stop.{Leaves, IsQuiet}
@@ -11,7 +11,7 @@ use Rattle.abc_store.specs.View.{work_of}
 use Rattle.abc_session.specs.Session.{session_of}
 use Rattle.abc_session.specs.Serving.{OpensTo, IsSessionPoint}
 use Rattle.abc_session.specs.Settled.{AsksSettled}
-use Rattle.abc_session.specs.inner.Place.{Place, start_place, place_at, session_at, WentOn, Ended}
+use Rattle.abc_session.specs.inner.Place.{Place, start_place, place_at, session_at, WentOn, Ended, WantsInput, AsksInput}
 use Rattle.abc_reader.specs.Reading.{fresh}
 use Rattle.abc_reader.proofs.Asks.{rising_then, rising_ends}
 use Rattle.abc_session.proofs.Broken.{told_served, idle_between}
@@ -29,7 +29,7 @@ abbrev limit : (g : Over) → After-turn g → Bounds
 limit g c = c.args.store.now.bounds
 
 abbrev whole : (g : Over) → After-turn g → Session Work
-whole g c = session_of (limit g c) (work_of c.args.store.now) (g.H.Host.now c.args.host.now).left
+whole g c = session_of (limit g c) c.args.steps (work_of c.args.store.now) (g.H.Host.now c.args.host.now).left
 
 -- what the clauses of the turn say of the bounds of its store is so of the bounds at the start
 of_bounds : (g : Over) (c : After-turn g) (P : Bounds → Type 0) → P c.items.store.bounds → P (limit g c)
@@ -37,26 +37,27 @@ of_bounds g c P p = subst (λ (b : Bounds). P b) c.items.invariant.bounds p
 
 -- the items so far were served, and those from here on are left
 served_on : (g : Over) (c : After-turn g) → g.H.Host.tells_input
-    → HasServed (works (work_of c.args.store.now) (whole g c)) (replies (whole g c)) (works (work_of c.items.store) (session_at (limit g c) (here g c))) (replies (session_at (limit g c) (here g c)))
+    → HasServed (works (work_of c.args.store.now) (whole g c)) (replies (whole g c)) (works (work_of c.items.store) (session_at (limit g c) c.args.steps (here g c))) (replies (session_at (limit g c) c.args.steps (here g c)))
     g.H.Host.tells_said (g.H.Host.now c.args.host.now).said (g.H.Host.now c.items.host).said
-served_on g c told = went_on (limit g c) (work_of c.args.store.now) (g.H.Host.now c.args.host.now) g.H.Host.tells_said (here g c) (c.items.invariant.went told)
+served_on g c told = went_on (limit g c) c.args.steps (work_of c.args.store.now) (g.H.Host.now c.args.host.now) g.H.Host.tells_said (here g c) (c.items.invariant.went told)
 
 -- a turn more
 stops_on : (g : Over) (c : After-turn g) → g.H.Host.tells_image → g.H.Host.tells_said → g.H.Host.tells_input → IsQuiet g.H.Host.clock g.H.Host.stopped c.args.host.now (g.H.Host.now c.args.host.now).image
     → Leaves g.H.Host.clock g.H.Host.stopped c.args.host.now c.turn.new.host (IsSessionPoint (work_of c.args.store.now) (whole g c) (g.H.Host.now c.args.host.now).said)
 stops_on g c told told_said told_input quiet =
     let i = c.items.invariant in
-    then_stops g.H.Host.clock g.H.Host.stopped c.args.host.now c.items.host c.turn.new.host (work_of c.args.store.now) (work_of c.items.store) (whole g c) (session_at (limit g c) (here g c)) g.H.Host.tells_said
+    then_stops g.H.Host.clock g.H.Host.stopped c.args.host.now c.items.host c.turn.new.host (work_of c.args.store.now) (work_of c.items.store) (whole g c) (session_at (limit g c) c.args.steps (here g c)) g.H.Host.tells_said
     (g.H.Host.now c.args.host.now).said (g.H.Host.now c.items.host).said (served_on g c told_input) told_said (i.stops told told_said told_input quiet)
-    (of_bounds g c (λ b. Leaves g.H.Host.clock g.H.Host.stopped c.items.host c.turn.new.host (IsSessionPoint (work_of c.items.store) (session_at b (here g c)) (g.H.Host.now c.items.host).said))
+    (of_bounds g c (λ b. Leaves g.H.Host.clock g.H.Host.stopped c.items.host c.turn.new.host (IsSessionPoint (work_of c.items.store) (session_at b c.args.steps (here g c)) (g.H.Host.now c.items.host).said))
     (c.turn.ensures.stops told told_said told_input (i.quiet told quiet)))
 
 asks_on : (g : Over) (c : After-turn g) → g.H.Host.tells_said → g.H.Host.tells_input
-    → Asked (AsksSettled (limit g c) (work_of c.args.store.now) (g.H.Host.now c.args.host.now).left (length (g.H.Host.now c.args.host.now).said)) (g.H.Host.now c.args.host.now).asked (g.H.Host.now c.turn.new.host).asked
+    → Asked (AsksSettled (limit g c) c.args.steps (work_of c.args.store.now) (g.H.Host.now c.args.host.now).left (length (g.H.Host.now c.args.host.now).said)) (g.H.Host.now c.args.host.now).asked (g.H.Host.now c.turn.new.host).asked
 asks_on g c told_said told =
     let i = c.items.invariant in
-    turn_asks (limit g c) (work_of c.args.store.now) (g.H.Host.now c.args.host.now) g.H.Host.tells_said (here g c)
-    (g.H.Host.now c.args.host.now).asked (g.H.Host.now c.items.host).asked (g.H.Host.now c.turn.new.host).asked told_said (i.went told) c.turn.ensures.ended_asks (c.turn.ensures.asked told_said told) (i.asked told_said told)
+    turn_asks (limit g c) c.args.steps (work_of c.args.store.now) (g.H.Host.now c.args.host.now) g.H.Host.tells_said (here g c)
+    (g.H.Host.now c.args.host.now).asked (g.H.Host.now c.items.host).asked (g.H.Host.now c.turn.new.host).asked told_said (i.went told) c.turn.ensures.ended_asks
+    (of_bounds g c (λ b. Asked (AsksInput b c.args.steps (here g c)) (g.H.Host.now c.items.host).asked (g.H.Host.now c.turn.new.host).asked) (c.turn.ensures.asked told_said told)) (i.asked told_said told)
 
 rises_on : (g : Over) (c : After-turn g) → g.H.Host.tells_said → AskedRising 0 (next_ask c.turn.new.reader.taken c.turn.new.reader.ended) (g.H.Host.now c.args.host.now).asked (g.H.Host.now c.turn.new.host).asked
 rises_on g c told =
@@ -69,19 +70,19 @@ rises_to_end g c told =
 
 -- all that was done up to the end of this turn
 went_all : (g : Over) (c : After-turn g) → g.H.Host.tells_input
-    → WentOn c.items.store.bounds g.H.Host.tells_said (here g c) (place_at c.turn.new.served (work_of c.turn.new.store) c.turn.new.reader (g.H.Host.now c.turn.new.host))
-    → WentOn (limit g c) g.H.Host.tells_said (start_place (work_of c.args.store.now) (limit g c).input (g.H.Host.now c.args.host.now)) (place_at c.turn.new.served (work_of c.turn.new.store) c.turn.new.reader (g.H.Host.now c.turn.new.host))
+    → WentOn c.items.store.bounds c.args.steps g.H.Host.tells_said (here g c) (place_at c.turn.new.served (work_of c.turn.new.store) c.turn.new.reader (g.H.Host.now c.turn.new.host))
+    → WentOn (limit g c) c.args.steps g.H.Host.tells_said (start_place (work_of c.args.store.now) (limit g c).input (g.H.Host.now c.args.host.now)) (place_at c.turn.new.served (work_of c.turn.new.store) c.turn.new.reader (g.H.Host.now c.turn.new.host))
 went_all g c told goes =
-    went_then (limit g c) g.H.Host.tells_said (start_place (work_of c.args.store.now) (limit g c).input (g.H.Host.now c.args.host.now)) (here g c)
+    went_then (limit g c) c.args.steps g.H.Host.tells_said (start_place (work_of c.args.store.now) (limit g c).input (g.H.Host.now c.args.host.now)) (here g c)
     (place_at c.turn.new.served (work_of c.turn.new.store) c.turn.new.reader (g.H.Host.now c.turn.new.host)) (c.items.invariant.went told)
-    (of_bounds g c (λ b. WentOn b g.H.Host.tells_said (here g c) (place_at c.turn.new.served (work_of c.turn.new.store) c.turn.new.reader (g.H.Host.now c.turn.new.host))) goes)
+    (of_bounds g c (λ b. WentOn b c.args.steps g.H.Host.tells_said (here g c) (place_at c.turn.new.served (work_of c.turn.new.store) c.turn.new.reader (g.H.Host.now c.turn.new.host))) goes)
     c.turn.ensures.stays_ended
 
 -- the session ended with this turn
 ends_so : (g : Over) (c : After-turn g)
-    → Ended c.items.store.bounds g.H.Host.tells_said (here g c) (place_at c.turn.new.served (work_of c.turn.new.store) c.turn.new.reader (g.H.Host.now c.turn.new.host))
-    → Ended (limit g c) g.H.Host.tells_said (here g c) (place_at c.turn.new.served (work_of c.turn.new.store) c.turn.new.reader (g.H.Host.now c.turn.new.host))
-ends_so g c ended = of_bounds g c (λ b. Ended b g.H.Host.tells_said (here g c) (place_at c.turn.new.served (work_of c.turn.new.store) c.turn.new.reader (g.H.Host.now c.turn.new.host))) ended
+    → Ended c.items.store.bounds c.args.steps g.H.Host.tells_said (here g c) (place_at c.turn.new.served (work_of c.turn.new.store) c.turn.new.reader (g.H.Host.now c.turn.new.host))
+    → Ended (limit g c) c.args.steps g.H.Host.tells_said (here g c) (place_at c.turn.new.served (work_of c.turn.new.store) c.turn.new.reader (g.H.Host.now c.turn.new.host))
+ends_so g c ended = of_bounds g c (λ b. Ended b c.args.steps g.H.Host.tells_said (here g c) (place_at c.turn.new.served (work_of c.turn.new.store) c.turn.new.reader (g.H.Host.now c.turn.new.host))) ended
 
 pub items-init : goal.items-init
 items-init g c = record {
@@ -93,7 +94,7 @@ items-init g c = record {
   total = search rules;
   ended = search rules;
   counted = search rules;
-  went = λ told. begins _ _ (work_of c.args.store.now) c.args.store.now.bounds.input (g.H.Host.now c.args.host.now) c.new-reader.result (c.new-reader.ensures ∙ ap fresh c.requires.same_bound);
+  went = λ told. begins _ _ _ (work_of c.args.store.now) c.args.store.now.bounds.input (g.H.Host.now c.args.host.now) c.new-reader.result (c.new-reader.ensures ∙ ap fresh c.requires.same_bound);
   asked = search rules;
   asks_rise = search rules;
   stops = search rules;
@@ -134,17 +135,17 @@ returns-clause-stops g c told told_said told_input quiet = stops_on g (goal.at.r
 pub returns-clause-said : goal.returns-clause-said
 returns-clause-said g c told_said told =
     let at = (goal.at.returns-clause-said g c).After-turn in
-    said_all (limit g at) (work_of c.args.store.now) (g.H.Host.now c.args.host.now) g.H.Host.tells_said (here g at) _ (c.items.invariant.went told) (ends_so g at (c.turn.ensures.ends told (search rules))) told_said
+    said_all (limit g at) c.args.steps (work_of c.args.store.now) (g.H.Host.now c.args.host.now) g.H.Host.tells_said (here g at) _ (c.items.invariant.went told) (ends_so g at (c.turn.ensures.ends told (search rules))) told_said
 
 pub returns-clause-work : goal.returns-clause-work
 returns-clause-work g c told =
     let at = (goal.at.returns-clause-work g c).After-turn in
-    kept_all (limit g at) (work_of c.args.store.now) (g.H.Host.now c.args.host.now) g.H.Host.tells_said (here g at) _ (c.items.invariant.went told) (ends_so g at (c.turn.ensures.ends told (search rules)))
+    kept_all (limit g at) c.args.steps (work_of c.args.store.now) (g.H.Host.now c.args.host.now) g.H.Host.tells_said (here g at) _ (c.items.invariant.went told) (ends_so g at (c.turn.ensures.ends told (search rules)))
 
 pub returns-clause-ended : goal.returns-clause-ended
 returns-clause-ended g c told =
     let at = (goal.at.returns-clause-ended g c).After-turn in
-    ended_all (limit g at) (work_of c.args.store.now) (g.H.Host.now c.args.host.now) g.H.Host.tells_said (here g at) _ (c.items.invariant.went told) (ends_so g at (c.turn.ensures.ends told (search rules)))
+    ended_all (limit g at) c.args.steps (work_of c.args.store.now) (g.H.Host.now c.args.host.now) g.H.Host.tells_said (here g at) _ (c.items.invariant.went told) (ends_so g at (c.turn.ensures.ends told (search rules)))
     (g.H.Host.now c.turn.new.host) refl (search rules) (c.turn.ensures.total told ∙ c.items.invariant.total told)
 
 pub returns-in_err-turn-clause-asked : goal.returns-in_err-turn-clause-asked
@@ -155,15 +156,17 @@ returns-clause-asked g c told_said told = asks_on g (goal.at.returns-clause-aske
 
 pub returns-in_err-turn-clause-waits : goal.returns-in_err-turn-clause-waits
 returns-in_err-turn-clause-waits g c told stopped =
-    waits_on (limit g (goal.at.returns-in_err-turn-clause-waits g c).After-turn) (work_of c.args.store.now) (g.H.Host.now c.args.host.now) g.H.Host.tells_said (here g (goal.at.returns-in_err-turn-clause-waits g c).After-turn)
-    (c.items.invariant.went told) (g.H.Host.now c.turn.new.host).taken (c.turn.ensures.wants told (search rules)) (search rules)
+    let at = (goal.at.returns-in_err-turn-clause-waits g c).After-turn in
+    waits_on (limit g at) c.args.steps (work_of c.args.store.now) (g.H.Host.now c.args.host.now) g.H.Host.tells_said (here g at)
+    (c.items.invariant.went told) (g.H.Host.now c.turn.new.host).taken (of_bounds g at (λ b. WantsInput b c.args.steps (here g at) (g.H.Host.now c.turn.new.host).taken) (c.turn.ensures.wants told (search rules))) (search rules)
 
 pub returns-in_err-turn-clause-waiting : goal.returns-in_err-turn-clause-waiting
 returns-in_err-turn-clause-waiting g c told told_said told_input quiet stopped =
     let i = c.items.invariant in
-    waits (limit g (goal.at.returns-in_err-turn-clause-waiting g c).After-turn) (work_of c.args.store.now) (g.H.Host.now c.args.host.now) g.H.Host.tells_said (here g (goal.at.returns-in_err-turn-clause-waiting g c).After-turn)
+    let at = (goal.at.returns-in_err-turn-clause-waiting g c).After-turn in
+    waits (limit g at) c.args.steps (work_of c.args.store.now) (g.H.Host.now c.args.host.now) g.H.Host.tells_said (here g at)
     (i.went told_input) (false_from_ne_true c.items.reader.ended (λ is. c.turn.ensures.ended_ends is (search rules))) (g.H.Host.now c.turn.new.host) (g.H.Host.stopped c.turn.new.host (g.H.Host.clock c.turn.new.host)) told_said
-    (c.turn.ensures.wants told_input (search rules)) (search rules) (c.turn.ensures.idle told (i.quiet told quiet) (search rules))
+    (of_bounds g at (λ b. WantsInput b c.args.steps (here g at) (g.H.Host.now c.turn.new.host).taken) (c.turn.ensures.wants told_input (search rules))) (search rules) (c.turn.ensures.idle told (i.quiet told quiet) (search rules))
 
 pub returns-in_err-turn-clause-between : goal.returns-in_err-turn-clause-between
 returns-in_err-turn-clause-between g c told told_said told_input quiet stopped =
@@ -171,10 +174,10 @@ returns-in_err-turn-clause-between g c told told_said told_input quiet stopped =
     let at = (goal.at.returns-in_err-turn-clause-between g c).After-turn in
     let first = g.H.Host.now c.args.host.now in
     let mid = g.H.Host.now c.items.host in
-    between_later OpensTo (works (work_of c.args.store.now) (whole g at)) (replies (whole g at)) (works (work_of c.items.store) (session_at (limit g at) (here g at))) (replies (session_at (limit g at) (here g at)))
+    between_later OpensTo (works (work_of c.args.store.now) (whole g at)) (replies (whole g at)) (works (work_of c.items.store) (session_at (limit g at) c.args.steps (here g at))) (replies (session_at (limit g at) c.args.steps (here g at)))
     first.said mid.said (g.H.Host.now c.turn.new.host).said (g.H.Host.stopped c.turn.new.host (g.H.Host.clock c.turn.new.host))
     (told_served _ _ _ _ g.H.Host.tells_said first.said mid.said told_said (served_on g at told_input))
-    (idle_between (work_of c.items.store) (session_at (limit g at) (here g at)) mid.said (g.H.Host.now c.turn.new.host).said (g.H.Host.stopped c.turn.new.host (g.H.Host.clock c.turn.new.host))
+    (idle_between (work_of c.items.store) (session_at (limit g at) c.args.steps (here g at)) mid.said (g.H.Host.now c.turn.new.host).said (g.H.Host.stopped c.turn.new.host (g.H.Host.clock c.turn.new.host))
     (search rules) (c.turn.ensures.idle told (i.quiet told quiet) (search rules)))
 
 pub returns-in_err-turn-clause-broken : goal.returns-in_err-turn-clause-broken
@@ -183,10 +186,10 @@ returns-in_err-turn-clause-broken g c told told_said told_input quiet stopped =
     let at = (goal.at.returns-in_err-turn-clause-broken g c).After-turn in
     let first = g.H.Host.now c.args.host.now in
     let mid = g.H.Host.now c.items.host in
-    broken_later OpensTo (works (work_of c.args.store.now) (whole g at)) (replies (whole g at)) (works (work_of c.items.store) (session_at (limit g at) (here g at))) (replies (session_at (limit g at) (here g at)))
+    broken_later OpensTo (works (work_of c.args.store.now) (whole g at)) (replies (whole g at)) (works (work_of c.items.store) (session_at (limit g at) c.args.steps (here g at))) (replies (session_at (limit g at) c.args.steps (here g at)))
     first.said mid.said (g.H.Host.now c.turn.new.host).said (g.H.Host.stopped c.turn.new.host (g.H.Host.clock c.turn.new.host))
     (told_served _ _ _ _ g.H.Host.tells_said first.said mid.said told_said (served_on g at told_input))
-    (of_bounds g at (λ b. IsBroken OpensTo (works (work_of c.items.store) (session_at b (here g at))) (replies (session_at b (here g at))) mid.said (g.H.Host.now c.turn.new.host).said
+    (of_bounds g at (λ b. IsBroken OpensTo (works (work_of c.items.store) (session_at b c.args.steps (here g at))) (replies (session_at b c.args.steps (here g at))) mid.said (g.H.Host.now c.turn.new.host).said
     (g.H.Host.stopped c.turn.new.host (g.H.Host.clock c.turn.new.host))) (c.turn.ensures.broken told told_said told_input (i.quiet told quiet) (search rules)))
 
 pub returns-in_err-turn-clause-cut_short : goal.returns-in_err-turn-clause-cut_short
@@ -195,10 +198,10 @@ returns-in_err-turn-clause-cut_short g c told told_said told_input quiet stopped
     let at = (goal.at.returns-in_err-turn-clause-cut_short g c).After-turn in
     let first = g.H.Host.now c.args.host.now in
     let mid = g.H.Host.now c.items.host in
-    cut_later OpensTo (works (work_of c.args.store.now) (whole g at)) (replies (whole g at)) (works (work_of c.items.store) (session_at (limit g at) (here g at))) (replies (session_at (limit g at) (here g at)))
+    cut_later OpensTo (works (work_of c.args.store.now) (whole g at)) (replies (whole g at)) (works (work_of c.items.store) (session_at (limit g at) c.args.steps (here g at))) (replies (session_at (limit g at) c.args.steps (here g at)))
     first.said mid.said (g.H.Host.now c.turn.new.host).said (g.H.Host.stopped c.turn.new.host (g.H.Host.clock c.turn.new.host))
     (told_served _ _ _ _ g.H.Host.tells_said first.said mid.said told_said (served_on g at told_input))
-    (of_bounds g at (λ b. IsCutShort OpensTo (works (work_of c.items.store) (session_at b (here g at))) (replies (session_at b (here g at))) mid.said (g.H.Host.now c.turn.new.host).said
+    (of_bounds g at (λ b. IsCutShort OpensTo (works (work_of c.items.store) (session_at b c.args.steps (here g at))) (replies (session_at b c.args.steps (here g at))) mid.said (g.H.Host.now c.turn.new.host).said
     (g.H.Host.stopped c.turn.new.host (g.H.Host.clock c.turn.new.host))) (c.turn.ensures.cut_short told told_said told_input (i.quiet told quiet) (search rules)))
 
 pub returns-clause-asks_rise : goal.returns-clause-asks_rise

@@ -25,11 +25,11 @@ invariant-items g l =
       total : g.H.Host.tells_input → l.reader.taken + length now.left ≡ length first.left;
       ended : g.H.Host.tells_input → l.reader.ended ≡ true → now.left ≡ [];
       counted : l.served ≤ l.reader.used;
-      went : g.H.Host.tells_input → WentOn limit g.H.Host.tells_said (start_place work limit.input first) (place_at l.served (work_of l.store) l.reader now);
-      asked : g.H.Host.tells_said → g.H.Host.tells_input → Asked (AsksSettled limit work first.left (length first.said)) first.asked now.asked;
+      went : g.H.Host.tells_input → WentOn limit l.steps g.H.Host.tells_said (start_place work limit.input first) (place_at l.served (work_of l.store) l.reader now);
+      asked : g.H.Host.tells_said → g.H.Host.tells_input → Asked (AsksSettled limit l.steps work first.left (length first.said)) first.asked now.asked;
       asks_rise : g.H.Host.tells_said → AskedRising 0 (next_ask l.reader.taken l.reader.ended) first.asked now.asked;
       stops : g.H.Host.tells_image → g.H.Host.tells_said → g.H.Host.tells_input → IsQuiet g.H.Host.clock g.H.Host.stopped l.initial.host first.image
-          → Leaves g.H.Host.clock g.H.Host.stopped l.initial.host l.host (IsSessionPoint work (session_of limit work first.left) first.said);
+          → Leaves g.H.Host.clock g.H.Host.stopped l.initial.host l.host (IsSessionPoint work (session_of limit l.steps work first.left) first.said);
       quiet : g.H.Host.tells_image → IsQuiet g.H.Host.clock g.H.Host.stopped l.initial.host first.image → IsQuiet g.H.Host.clock g.H.Host.stopped l.host now.image;
       chosen : now.chosen ≡ first.chosen;
       none_fell : NoneFell first now;

@@ -1,9 +1,11 @@
-use Rattle.std.proofs.Common.{rules, ◌≡◌, ◌<◌, ◌+◌, ◌-◌, ◌++◌, ◌∷◌, ◌∙◌, true, false, [], length, take, nat_lt, sym, ap, refl}
+use Rattle.std.proofs.Common.{List, ℕ, rules, ◌≡◌, ◌<◌, ◌+◌, ◌-◌, ◌++◌, ◌∷◌, ◌∙◌, true, false, [], length, take, nat_lt, sym, ap, subst, refl}
 use Rattle.abc_outside.proofs.Leaves.{run_after}
 use Rattle.abc_num.specs.Lines.{raw_lines}
-use Rattle.abc_reader.specs.inner.LineReading.{shown, pending_of, TookPart, WantsLine, AsksLine}
+use Rattle.abc_reader.specs.inner.LineReading.{shown, pending_of, used_of, Consumes, ConsumesOpen, TookPart, WantsLine, AsksLine}
 use Rattle.abc_reader.proofs.Started.{IsStarted, found, uses, if_found, went_on, read_on, wants, ends_empty, ends_line, last_found, none_left}
 use Rattle.abc_reader.specs.Asking.{Asked, next_ask}
+use Rattle.abc_reader.proofs.RawLines.{front_found, front_on, raw_front, raw_last}
+use Rattle.abc_reader.proofs.FirstLines.{counted, on_error, first, first_on, first_last, consumed_open, consumed_found, over, over_stays, within, last_first, none_over}
 use Rattle.abc_reader.proofs.Asks.{asks_more, rising_read}
 use Rattle.abc_reader.proofs.line_reader.LineReader.next.Given.{Over}
 use Rattle.abc_reader.proofs.line_reader.LineReader.next.Goals.{In_ok-take_part, After-fill}
@@ -64,6 +66,7 @@ pieces-preserved g c =
       rises = search rules;
       ended = search rules;
       used = search rules;
+      front = front_on (shown c.pieces.line) (shown c.take_part.new.line) (pending_of c.pieces.self) (pending_of c.take_part.new.self) i.front (rw c.if-branch.false at c.in_ok-take_part.ensures.part);
       started = λ told. read_on _ _ _ _ _ _ _ (goes_on g part c.if-branch.false told) (pending_of c.fill.new.self) (g.H.Host.now c.fill.new.host).left c.fill.new.self.taken refl (c.in_ok-fill.ensures.bytes told) (search rules);
       asked = λ told_said told. asks_on g (goal.at.pieces-preserved g c).After-fill (wants_now g part c.if-branch.false told) told_said told;
       asks_rise = λ told. rising_read (next_ask c.args.self.now.taken c.args.self.now.ended) c.pieces.self.taken c.take_part.new.self.taken _ c.pieces.self.ended c.take_part.new.self.ended
@@ -105,3 +108,111 @@ returns-in_err-fill-clause-asks_rise g c told =
     rising_read (next_ask c.args.self.now.taken c.args.self.now.ended) c.pieces.self.taken c.take_part.new.self.taken _ c.pieces.self.ended c.take_part.new.self.ended
     (g.H.Host.now c.args.host.now).asked (g.H.Host.now c.pieces.host).asked (g.H.Host.now c.fill.new.host).asked c.in_ok-take_part.ensures.taken c.in_ok-take_part.ensures.ended (search rules)
     (c.pieces.invariant.asks_rise told) (c.fill.ensures.asks_rise told)
+
+pub returns-then-branch-clause-first : goal.returns-then-branch-clause-first
+returns-then-branch-clause-first g c told =
+    let new = c.take_part.new.self in
+    let line = shown c.take_part.new.line in
+    let part : TookPart (pending_of c.pieces.self) (pending_of new) (shown c.pieces.line) line true = rw c.if-branch.true at c.in_ok-take_part.ensures.part in
+    first (pending_of c.args.self.now) (g.H.Host.now c.args.host.now).left c.args.self.now.taken (shown c.pieces.line) (pending_of c.pieces.self) (g.H.Host.now c.pieces.host).left c.pieces.self.taken (c.pieces.invariant.started told)
+    (pending_of new) line c.finish.result c.args.self.now.bound new.taken new.bound (search rules) c.in_ok-take_part.ensures.taken (c.in_ok-take_part.ensures.bound ∙ c.pieces.invariant.bound) part c.finish.ensures.line
+
+pub returns-then-self-clause-first : goal.returns-then-self-clause-first
+returns-then-self-clause-first g c told =
+    let new = c.take_part.new.self in
+    let line = shown c.take_part.new.line in
+    let part : TookPart (pending_of c.pieces.self) (pending_of new) (shown c.pieces.line) line false = rw c.if-branch.false at c.in_ok-take_part.ensures.part in
+    let end : (g.H.Host.now c.pieces.host).left ≡ [] = search rules in
+    let lt : c.pieces.self.taken < c.args.self.now.bound = search rules in
+    let s = goes_on g (goal.at.returns-then-self-clause-first g c).In_ok-take_part c.if-branch.false told in
+    last_first c.if_any.result c.take_part.new.line _ c.if_any.ensures.last
+    (λ last made some. first_last _ _ _ _ _ _ _ s (pending_of new) last c.args.self.now.bound new.taken new.bound lt refl end (part.rest refl) c.in_ok-take_part.ensures.taken (c.in_ok-take_part.ensures.bound ∙ c.pieces.invariant.bound) made some)
+
+pub returns-then-self-clause-over : goal.returns-then-self-clause-over
+returns-then-self-clause-over g c told =
+    let end : (g.H.Host.now c.pieces.host).left ≡ [] = search rules in
+    let lt : c.pieces.self.taken < c.args.self.now.bound = search rules in
+    let s = goes_on g (goal.at.returns-then-self-clause-over g c).In_ok-take_part c.if-branch.false told in
+    none_over c.if_any.result c.take_part.new.line _ c.if_any.ensures.last (λ empty. over _ _ _ _ _ _ _ s c.args.self.now.bound lt refl end empty)
+
+pub returns-then-self-clause-over_stays : goal.returns-then-self-clause-over_stays
+returns-then-self-clause-over_stays g c told =
+    let new = c.take_part.new.self in
+    let line = shown c.take_part.new.line in
+    let part : TookPart (pending_of c.pieces.self) (pending_of new) (shown c.pieces.line) line false = rw c.if-branch.false at c.in_ok-take_part.ensures.part in
+    let end : (g.H.Host.now c.pieces.host).left ≡ [] = search rules in
+    let lt : c.pieces.self.taken < c.args.self.now.bound = search rules in
+    let s = goes_on g (goal.at.returns-then-self-clause-over_stays g c).In_ok-take_part c.if-branch.false told in
+    none_over c.if_any.result c.take_part.new.line _ c.if_any.ensures.last
+    (λ empty. over_stays _ _ _ _ _ _ _ s (pending_of new) c.args.self.now.bound new.taken new.bound lt refl end (part.rest refl) c.in_ok-take_part.ensures.taken (c.in_ok-take_part.ensures.bound ∙ c.pieces.invariant.bound) empty)
+
+pub returns-then-self-2-clause-within : goal.returns-then-self-2-clause-within
+returns-then-self-2-clause-within g c told is =
+    let s = goes_on g (goal.at.returns-then-self-2-clause-within g c).In_ok-take_part c.if-branch.false told in
+    within _ _ _ _ _ _ _ s c.args.self.now.bound (search rules) refl
+
+pub returns-then-branch-clause-raw : goal.returns-then-branch-clause-raw
+returns-then-branch-clause-raw g c =
+    let line = shown c.take_part.new.line in
+    let part : TookPart (pending_of c.pieces.self) (pending_of c.take_part.new.self) (shown c.pieces.line) line true = rw c.if-branch.true at c.in_ok-take_part.ensures.part in
+    raw_front line c.finish.result (front_found (shown c.pieces.line) line (pending_of c.pieces.self) (pending_of c.take_part.new.self) c.pieces.invariant.front part) c.finish.ensures.line
+
+pub returns-then-self-clause-raw : goal.returns-then-self-clause-raw
+returns-then-self-clause-raw g c =
+    let line = shown c.take_part.new.line in
+    let part : TookPart (pending_of c.pieces.self) (pending_of c.take_part.new.self) (shown c.pieces.line) line false = rw c.if-branch.false at c.in_ok-take_part.ensures.part in
+    raw_last c.if_any.result c.take_part.new.line (front_on (shown c.pieces.line) line (pending_of c.pieces.self) (pending_of c.take_part.new.self) c.pieces.invariant.front part) c.if_any.ensures.last
+
+pub returns-then-branch-clause-first_on : goal.returns-then-branch-clause-first_on
+returns-then-branch-clause-first_on g c told going =
+    let line = shown c.take_part.new.line in
+    let part : TookPart (pending_of c.pieces.self) (pending_of c.take_part.new.self) (shown c.pieces.line) line true = rw c.if-branch.true at c.in_ok-take_part.ensures.part in
+    first_on (pending_of c.args.self.now) (g.H.Host.now c.args.host.now).left c.args.self.now.taken (shown c.pieces.line) (pending_of c.pieces.self) (g.H.Host.now c.pieces.host).left c.pieces.self.taken (c.pieces.invariant.started told)
+    (pending_of c.take_part.new.self) line c.finish.result part c.finish.ensures.line
+
+pub returns-then-self-clause-first_on : goal.returns-then-self-clause-first_on
+returns-then-self-clause-first_on g c told =
+    let is : c.take_part.new.self.ended ≡ true = search rules in
+    if_found c.if_any.result _ (λ line not. absurd (cc (is, not)))
+
+-- all that was consumed is in the line, which goes on
+all_open : (g : Over) (c : In_ok-take_part g) → c.in_ok-take_part.field-0 ≡ false → g.H.Host.tells_input
+    → ConsumesOpen (pending_of c.args.self.now ++ (g.H.Host.now c.args.host.now).left) (pending_of c.take_part.new.self ++ (g.H.Host.now c.pieces.host).left) (used_of c.args.self.now) (used_of c.take_part.new.self)
+all_open g c not told =
+    let left = (g.H.Host.now c.pieces.host).left in
+    let new = c.take_part.new.self in
+    let part : TookPart (pending_of c.pieces.self) (pending_of new) (shown c.pieces.line) (shown c.take_part.new.line) false = rw not at c.in_ok-take_part.ensures.part in
+    let none = part.rest refl in
+    let count : used_of new + length {A = ℕ} [] ≡ c.pieces.self.taken = ap (λ (p : List ℕ). used_of new + length p) (sym none) ∙ counted new ∙ c.in_ok-take_part.ensures.taken in
+    subst (λ (p : List ℕ). ConsumesOpen (pending_of c.args.self.now ++ (g.H.Host.now c.args.host.now).left) (p ++ left) (used_of c.args.self.now) (used_of new)) (sym none)
+    (consumed_open _ _ _ _ _ _ _ (goes_on g c not told) (used_of c.args.self.now) (used_of new) (counted c.args.self.now) count)
+
+pub returns-in_err-take_part-clause-is_open : goal.returns-in_err-take_part-clause-is_open
+returns-in_err-take_part-clause-is_open g c told =
+    on_error c.from_residual.result _
+    (subst (λ r. ConsumesOpen (pending_of c.args.self.now ++ (g.H.Host.now c.args.host.now).left) (pending_of r ++ (g.H.Host.now c.pieces.host).left) (used_of c.args.self.now) (used_of r)) (sym c.in_err-take_part.ensures.failed)
+    (consumed_open _ _ _ _ _ _ _ (c.pieces.invariant.started told) (used_of c.args.self.now) (used_of c.pieces.self) (counted c.args.self.now) (counted c.pieces.self)))
+
+pub returns-then-branch-clause-consumes : goal.returns-then-branch-clause-consumes
+returns-then-branch-clause-consumes g c told =
+    let new = c.take_part.new.self in
+    let line = shown c.take_part.new.line in
+    let part : TookPart (pending_of c.pieces.self) (pending_of new) (shown c.pieces.line) line true = rw c.if-branch.true at c.in_ok-take_part.ensures.part in
+    consumed_found _ _ _ _ _ _ _ (c.pieces.invariant.started told) (pending_of new) line (used_of c.args.self.now) (used_of new) (counted c.args.self.now) (counted new ∙ c.in_ok-take_part.ensures.taken) part
+
+pub returns-then-self-clause-consumes : goal.returns-then-self-clause-consumes
+returns-then-self-clause-consumes g c told = (all_open g (goal.at.returns-then-self-clause-consumes g c).In_ok-take_part c.if-branch.false told).whole
+
+pub returns-then-self-2-clause-is_open : goal.returns-then-self-2-clause-is_open
+returns-then-self-2-clause-is_open g c told = all_open g (goal.at.returns-then-self-2-clause-is_open g c).In_ok-take_part c.if-branch.false told
+
+pub returns-in_err-fill-clause-is_open : goal.returns-in_err-fill-clause-is_open
+returns-in_err-fill-clause-is_open g c told =
+    let part = (goal.at.returns-in_err-fill-clause-is_open g c).In_ok-take_part in
+    let new = c.fill.new.self in
+    let none = c.in_err-fill.ensures.failed_pending in
+    let count : used_of new + length {A = ℕ} [] ≡ c.pieces.self.taken = ap (λ (p : List ℕ). used_of new + length p) (sym none) ∙ counted new ∙ c.in_err-fill.ensures.failed ∙ c.in_ok-take_part.ensures.taken in
+    on_error c.from_residual-in_err-fill.result _
+    (subst (λ (l : List ℕ). ConsumesOpen (pending_of c.args.self.now ++ (g.H.Host.now c.args.host.now).left) (pending_of new ++ l) (used_of c.args.self.now) (used_of new)) (sym c.in_err-fill.ensures.failed_left)
+    (subst (λ (p : List ℕ). ConsumesOpen (pending_of c.args.self.now ++ (g.H.Host.now c.args.host.now).left) (p ++ (g.H.Host.now c.pieces.host).left) (used_of c.args.self.now) (used_of new)) (sym none)
+    (consumed_open _ _ _ _ _ _ _ (goes_on g part c.if-branch.false told) (used_of c.args.self.now) (used_of new) (counted c.args.self.now) count)))

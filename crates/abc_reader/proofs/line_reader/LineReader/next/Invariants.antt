@@ -1,7 +1,7 @@
 use Rattle.std.proofs.Common.{◌≡◌, ◌≤◌, ◌+◌, ◌-◌, ◌*◌, List, ℕ, [], length, true, cond}
 use Rattle.abc_outside.specs.Outside.{KeepsButInput}
 use Rattle.abc_outside.specs.Stop.{Leaves}
-use Rattle.abc_reader.specs.inner.LineReading.{shown, pending_of, used_of, AsksLine}
+use Rattle.abc_reader.specs.inner.LineReading.{shown, pending_of, used_of, HasFront, AsksLine}
 use Rattle.abc_reader.specs.Asking.{Asked, AskedRising, next_ask}
 use Rattle.abc_reader.proofs.Started.{IsStarted}
 use Rattle.abc_reader.proofs.line_reader.LineReader.next.Given as goal
@@ -13,6 +13,7 @@ invariant-pieces g l = record {
   rises : l.initial.self.taken ≤ l.self.taken;
   ended : g.H.Host.tells_input → l.self.ended ≡ true → (g.H.Host.now l.host).left ≡ [];
   used : length l.line.bytes.items + used_of l.initial.self ≤ used_of l.self;
+  front : HasFront (shown l.line);
   started : g.H.Host.tells_input
       → IsStarted (pending_of l.initial.self) (g.H.Host.now l.initial.host).left l.initial.self.taken (shown l.line) (pending_of l.self) (g.H.Host.now l.host).left l.self.taken;
   asked : g.H.Host.tells_said → g.H.Host.tells_input

@@ -1,0 +1,2 @@
+-- Lemmas on lists of calls.
+mod Listing

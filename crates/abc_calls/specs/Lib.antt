@@ -1,0 +1,2 @@
+-- Calls in the order of the text.
+pub mod inner

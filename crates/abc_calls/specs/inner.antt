@@ -1,0 +1,2 @@
+-- What the code keeps on the way.
+pub mod Nodes

@@ -1,0 +1,14 @@
+//! The made input, and what is said of a run on it.
+#![tactic(auto)]
+
+mod input;
+mod lines;
+mod summary;
+mod tally;
+
+pub use input::input_of;
+pub use summary::summary_of;
+pub use tally::Tally;
+
+#[cfg(test)]
+mod tests;

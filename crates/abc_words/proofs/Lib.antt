@@ -1,0 +1,5 @@
+pub mod Faultless
+mod Taken
+mod Counted
+mod Asking
+mod Rows

@@ -1,0 +1,2 @@
+-- What the words of the program ask for.
+pub mod Words
