@@ -1,0 +1,4 @@
+-- What the code keeps on the way.
+pub mod Asked
+pub mod Groupwise
+pub mod Halves

@@ -1,0 +1,3 @@
+pub mod Demanded
+pub mod Typings
+pub mod inner
