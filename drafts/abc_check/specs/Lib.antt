@@ -1,4 +1,0 @@
--- What a checker knows of a workspace.
-pub mod Cuts
-pub mod Standing
-pub mod inner

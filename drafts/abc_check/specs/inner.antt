@@ -1,4 +1,0 @@
--- What the code keeps on the way.
-pub mod Asked
-pub mod Groupwise
-pub mod Halves

@@ -1,4 +1,0 @@
--- Principal signatures of units.
-pub mod Exact
-pub mod Principals
-pub mod inner

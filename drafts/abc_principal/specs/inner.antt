@@ -1,3 +1,0 @@
--- What the code keeps on the way.
-pub mod Grouped
-pub mod Naming
