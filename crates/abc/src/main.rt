@@ -1,4 +1,5 @@
 //! abc STORE [--from FILE] [--steps N]: lines from standard input or the file, replies to standard output, the workspace in the file STORE.
+//! abc --make N [--steps N]: the made input that puts N values, in a store of its own; a summary to standard output.
 #![tactic(auto)]
 
 use abc_outside::RealHost;

@@ -2,9 +2,7 @@
 use Rattle.std.proofs.Common.{◌≡◌, ◌∙◌, ◌⊎◌, inl, inr, ℕ, zero, suc, ◌+◌, ◌<◌, ◌≤◌, List, [], ◌∷◌, ◌++◌, length, map, drop, ap, sym, subst, refl, arith}
 use Rattle.std.specs.Prelude.{Option, None, Some}
 use Rattle.std.specs.Option.{option_map}
-use Rattle.std.specs.List.{All}
 use Rattle.std.proofs.lemmas.List.{length-map}
-use Rattle.std.proofs.lemmas.List.Elements.{All-head, All-tail}
 use Rattle.abc_num.specs.declared.types.Ground.{Ground}
 use Rattle.abc_terms.specs.declared.term.VarId.{VarId}
 use Rattle.abc_terms.specs.Demands.{MeetsAll}
@@ -24,11 +22,12 @@ use Rattle.abc_ground.specs.Calls.{each_templates, next_of}
 use Rattle.abc_ground.specs.Items.{HasResult}
 use Rattle.abc_demand.specs.declared.env.Signature.{Signature as SignatureVars}
 use Rattle.abc_demand.specs.declared.scope.Scope.{Scope}
-use Rattle.abc_demand.specs.Typings.{types_of, type_of, signature_of, signatures_of, AreMade, IsMade, SignatureMade, CallMade}
+use Rattle.abc_demand.specs.Typings.{types_of, type_of, signature_of, signatures_of, AreMade, SignatureMade, CallMade}
 use Rattle.abc_demand.specs.inner.Drafts.{Drafted}
 use Rattle.abc_demand.specs.inner.Leads.{IsLocal, Leads}
 use Rattle.abc_demand.specs.inner.Walks.{Scene, scene, scope_bound, lists_of, numbers, Walked, Found, IsNever}
 use Rattle.abc_demand.specs.inner.Wholes.{own_scene, HeadAndBody, CommandBody}
+use Rattle.abc_demand.proofs.Alike.{own_alike}
 use Rattle.abc_demand.proofs.Leading.{leads_seen, leads_as, leads_then, leads_beside}
 use Rattle.abc_demand.proofs.Ranged.{none_past}
 use Rattle.abc_demand.proofs.Ruling.{any_leads, never_bare}
@@ -57,28 +56,6 @@ pub both_none : {X : Type 0} (see : (ℕ → Ground) → X) (old mid new : Draft
 both_none see old mid new P Q local one two =
     leads_none_as see old new (λ x ts. (ps : List Ground) × (qs : List Ground) × (ts ≡ ps ++ qs) × ((ps ≡ []) × P x) × ((qs ≡ []) × Q x)) (λ x. P x × Q x) (λ x h. (h.3.1, h.4.1)) (λ x h. ([], [], refl, (refl, h.0), (refl, h.1)))
     (leads_beside see old mid new (λ x ts. (ts ≡ []) × P x) (λ x ts. (ts ≡ []) × Q x) [] [] local one two)
-
-types_alike : (n : ℕ) (v w : ℕ → Ground) → ((i : ℕ) → i < n → v i ≡ w i) → (vars : List VarId) → AreMade n vars → types_of v vars ≡ types_of w vars
-types_alike n v w same [] made = refl
-types_alike n v w same (a ∷ vars) made = ap (λ g. g ∷ types_of v vars) (same a.0 (All-head (λ b. b.0 < n) a vars made)) ∙ ap (λ gs. w a.0 ∷ gs) (types_alike n v w same vars (All-tail (λ b. b.0 < n) a vars made))
-
-type_alike : (n : ℕ) (v w : ℕ → Ground) → ((i : ℕ) → i < n → v i ≡ w i) → (a : Option VarId) → IsMade n a → type_of v a ≡ type_of w a
-type_alike n v w same None made = refl
-type_alike n v w same (Some a) made = ap (λ (g : Ground). Some g) (same a.0 made)
-
-pub signature_alike : (n : ℕ) (v w : ℕ → Ground) → ((i : ℕ) → i < n → v i ≡ w i) → (s : SignatureVars) → SignatureMade n s → signature_of v s ≡ signature_of w s
-signature_alike n v w same s made =
-    ap (λ (gs : List Ground). record { formals = gs; result = type_of v s.result }) (types_alike n v w same s.formals made.formals)
-    ∙ ap (λ (g : Option Ground). record { formals = types_of w s.formals; result = g }) (type_alike n v w same s.result made.result)
-
-pub own_alike : (n : ℕ) (v w : ℕ → Ground) → ((i : ℕ) → i < n → v i ≡ w i) → (own : Option SignatureVars) → CallMade n own → option_map (signature_of v) own ≡ option_map (signature_of w) own
-own_alike n v w same None made = refl
-own_alike n v w same (Some s) made = ap (λ (t : Signature). Some t) (signature_alike n v w same s made)
-
-pub calls_alike : (n : ℕ) (v w : ℕ → Ground) → ((i : ℕ) → i < n → v i ≡ w i) → (calls : List (Option SignatureVars)) → All (CallMade n) calls → signatures_of v calls ≡ signatures_of w calls
-calls_alike n v w same [] made = refl
-calls_alike n v w same (o ∷ calls) made =
-    ap (λ p. p ∷ signatures_of v calls) (own_alike n v w same o (All-head (CallMade n) o calls made)) ∙ ap (λ ps. option_map (signature_of w) o ∷ ps) (calls_alike n v w same calls (All-tail (CallMade n) o calls made))
 
 pub own_local : (n : ℕ) (s : Scope) (own : Option SignatureVars) → scope_bound s ≤ n → CallMade n own → IsLocal (own_scene s own) n
 own_local n s own bound made v w same =

@@ -1,4 +1,5 @@
 -- Lemmas on demands.
+pub mod Alike
 mod Asking
 mod Leading
 mod Letters

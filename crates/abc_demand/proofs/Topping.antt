@@ -34,7 +34,7 @@ use Rattle.abc_demand.specs.inner.Walks.{scene, vars_bound, var_bound, calls_bou
 use Rattle.abc_demand.specs.inner.Wholes.{own_scene, HeadAndBody, CommandBody, UnitAsked, CommandAsked}
 use Rattle.abc_demand.proofs.Leading.{All-left, All-right}
 use Rattle.abc_demand.proofs.NameLemmas.{agree_kept}
-use Rattle.abc_demand.proofs.BodyLemmas.{calls_alike, own_alike}
+use Rattle.abc_demand.proofs.Alike.{calls_alike, own_alike}
 
 -- ---- the types of names, by their roles
 

@@ -16,6 +16,7 @@ pub fn add(g: &mut Graph, made: u32, demands: Vec<Demand>) -> Result<(), UnifyFa
     ensures demands { OnOk result (g.new.demands ≡ g.old.demands ++ demands.items) }
     ensures clash { result ≡ Err UnifyFault.Clash → IsUnsolvable (g.old.demands ++ demands.items) }
     ensures err { OnErr result (g.new ≡ g.old) }
+    ensures later { IsLater g.old g.new }
 {
     let before = g.mark();
     match add_all(g, made, demands) {

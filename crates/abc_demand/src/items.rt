@@ -1,9 +1,10 @@
 //! The demands of a unit and of a command, added to a graph.
-ghost use Rattle.std.specs.Prelude.{◌≡◌, ◌++◌, ℕ, List, map, not, slice_set, true, Err, IfOk, OnOk, OnErr};
+ghost use Rattle.std.specs.Prelude.{◌≡◌, ◌≤◌, ◌++◌, ℕ, List, map, not, slice_set, true, Err, IfOk, OnOk, OnErr};
 ghost use Rattle.abc_terms.specs.declared.term.VarId.{VarId as TheVar};
 ghost use Rattle.abc_tree.specs.RegularItems.{AreFlags};
 ghost use Rattle.abc_demand.specs.Typings.{EnvMade, result_var};
 ghost use Rattle.abc_demand.specs.Demanded.{UnitTyped, CommandTyped, IsDemanded, IsRefused, AreGiven};
+ghost use Rattle.abc_demand.specs.inner.Graphs.{IsLater};
 ghost use Rattle.abc_demand.specs.inner.Wholes.{UnitAsked, CommandAsked};
 
 use crate::adding::add;
@@ -31,6 +32,8 @@ pub fn demand_unit(
     ensures ok { OnOk result (IsDemanded g.old g.new env.old.targets env.new.targets (UnitTyped env.old unit.now upto)) }
     ensures clash { result ≡ Err UnifyFault.Clash → IsRefused g.old env.old.targets (UnitTyped env.old unit.now upto) }
     ensures given { OnOk result (AreGiven g.old.count g.new.count env.old.targets env.new.targets) }
+    ensures grows { OnOk result (g.old.count ≤ g.new.count) }
+    ensures later { IsLater g.old g.new }
     ensures own { env.new.own ≡ env.old.own }
     ensures calls { env.new.calls ≡ env.old.calls }
     ensures graph { OnErr result (g.new ≡ g.old) }
@@ -58,6 +61,8 @@ pub fn demand_command(
     ensures ok { OnOk result (IsDemanded g.old g.new env.old.targets env.new.targets (CommandTyped env.old command.now upto)) }
     ensures clash { result ≡ Err UnifyFault.Clash → IsRefused g.old env.old.targets (CommandTyped env.old command.now upto) }
     ensures given { OnOk result (AreGiven g.old.count g.new.count env.old.targets env.new.targets) }
+    ensures grows { OnOk result (g.old.count ≤ g.new.count) }
+    ensures later { IsLater g.old g.new }
     ensures own { env.new.own ≡ env.old.own }
     ensures calls { env.new.calls ≡ env.old.calls }
     ensures graph { OnErr result (g.new ≡ g.old) }
@@ -85,6 +90,8 @@ fn add_unit(
     ensures ok { OnOk result (IsDemanded g.old g.new env.old.targets env.new.targets (UnitTyped env.old unit.now upto)) }
     ensures clash { result ≡ Err UnifyFault.Clash → IsRefused g.old env.old.targets (UnitTyped env.old unit.now upto) }
     ensures given { OnOk result (AreGiven g.old.count g.new.count env.old.targets env.new.targets) }
+    ensures grows { OnOk result (g.old.count ≤ g.new.count) }
+    ensures later { IsLater g.old g.new }
     ensures own { env.new.own ≡ env.old.own }
     ensures calls { env.new.calls ≡ env.old.calls }
     ensures graph { OnErr result (g.new ≡ g.old) }
@@ -112,6 +119,8 @@ fn add_command(
     ensures ok { OnOk result (IsDemanded g.old g.new env.old.targets env.new.targets (CommandTyped env.old command.now upto)) }
     ensures clash { result ≡ Err UnifyFault.Clash → IsRefused g.old env.old.targets (CommandTyped env.old command.now upto) }
     ensures given { OnOk result (AreGiven g.old.count g.new.count env.old.targets env.new.targets) }
+    ensures grows { OnOk result (g.old.count ≤ g.new.count) }
+    ensures later { IsLater g.old g.new }
     ensures own { env.new.own ≡ env.old.own }
     ensures calls { env.new.calls ≡ env.old.calls }
     ensures graph { OnErr result (g.new ≡ g.old) }

@@ -1,5 +1,5 @@
 //! The variables of targets, by name.
-ghost use Rattle.std.specs.Prelude.{◌≡◌, [], ◌∷◌, ◌++◌, None, length, take, OnOk, OnErr};
+ghost use Rattle.std.specs.Prelude.{◌≡◌, [], ◌∷◌, ◌++◌, None, length, take, slice_get, option_map, OnOk, OnErr};
 ghost use Rattle.abc_demand.specs.Typings.{var_of};
 
 use abc_num::{OutOfMemory, Text};
@@ -45,6 +45,16 @@ impl TargetVars {
         ensures { result ≡ var_of self.now name.now }
     {
         self.vars.get(name).copied()
+    }
+
+    /// The name of target number `i`, counted from 0, if there are so many.
+    pub fn name(&self, i: usize) -> Option<&Text>
+        ensures { option_map (λ name. name.now) result ≡ option_map (λ p. p.0) (slice_get self.now i) }
+    {
+        match self.vars.get_index(i) {
+            Some((name, _)) => Some(name),
+            None => None,
+        }
     }
 
     /// Gives a variable to a target that has none. After OutOfMemory the targets are as before.

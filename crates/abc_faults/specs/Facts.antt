@@ -10,7 +10,7 @@ use Rattle.abc_outline.specs.declared.edges.Place.{Place}
 use Rattle.abc_outline.specs.declared.edges.Role.{Role}
 use Rattle.abc_outline.specs.declared.edges.Role.TheVariants as role
 use Rattle.abc_outline.specs.declared.rows.Row.{Row}
-use Rattle.abc_outline.specs.Outline.{setting_of, place_of, opens_select}
+use Rattle.abc_outline.specs.Outline.{is_how_to, setting_of, place_of, opens_select}
 use Rattle.abc_outline.specs.OwnNames.{item_names, refinements, name_kinds, commands_of}
 use Rattle.abc_clauses.specs.declared.clause.Clause.{Clause}
 use Rattle.abc_clauses.specs.declared.clause.Head.{Head}
@@ -32,10 +32,10 @@ abbrev pub kind_by_read : Result (List Lexeme) TokenFault → TemplateKind
 kind_by_read (Ok ts) = kind_by_tokens ts
 kind_by_read (Err fault) = template.Command
 
--- what an item is, if it is a unit
+-- what an item is: a command, where it is no unit
 abbrev pub unit_kind : List Row → TemplateKind
 unit_kind [] = template.Command
-unit_kind (row ∷ rows) = kind_by_read row.read
+unit_kind (row ∷ rows) = if is_how_to row.edges.first then kind_by_read row.read else template.Command
 
 -- the facts of an item with these lines, where these are targets
 abbrev pub facts_of : List (List ℕ) → List Row → Facts

@@ -1,12 +1,13 @@
 //! What is known of an item before its lines are judged.
 ghost use Rattle.std.specs.Prelude.{◌≡◌, IfOk};
-ghost use Rattle.abc_faults.specs.Facts.{facts_of, kind_by_tokens, kind_by_word, unit_kind};
+ghost use Rattle.abc_faults.specs.Facts.{facts_of, kind_by_read, kind_by_tokens, kind_by_word, unit_kind};
 
 use abc_expressions::Lexeme;
 use abc_num::{Items, Names, OutOfMemory};
 use abc_outline::{
     Refined, Row, Setting, commands_of, item_names, name_kinds, refinements, setting_of,
 };
+use abc_tokens::First;
 use abc_tree::{RefinementKind, TemplateKind};
 use std::alloc::Global;
 
@@ -14,7 +15,7 @@ use std::alloc::Global;
 #[derive(Drop)]
 pub struct Facts {
     pub setting: Setting,
-    /// What the item is, if it is a unit.
+    /// What the item is: a command, where it is no unit.
     pub kind: TemplateKind,
     /// The own names that stand in it, in the order of first use.
     pub names: Names,
@@ -47,16 +48,26 @@ fn kind_by_word(word: &[u8]) -> TemplateKind
     TemplateKind::Command
 }
 
-/// What an item is, if it is a unit.
+/// What an item is: a command, where it is no unit.
 fn unit_kind(rows: &[Row]) -> TemplateKind
     ensures { result ≡ unit_kind rows.now }
 {
     match rows {
-        [row, ..] => match &row.read {
-            Ok(tokens) => kind_by_tokens(tokens.as_slice()),
-            Err(_) => TemplateKind::Command,
+        [row, ..] => match row.edges.first {
+            First::HowTo => kind_by_read(row),
+            First::Heading | First::Environment | First::Other => TemplateKind::Command,
         },
         [] => TemplateKind::Command,
+    }
+}
+
+/// What a unit with this first line is.
+fn kind_by_read(row: &Row) -> TemplateKind
+    ensures { result ≡ kind_by_read row.now.read }
+{
+    match &row.read {
+        Ok(tokens) => kind_by_tokens(tokens.as_slice()),
+        Err(_) => TemplateKind::Command,
     }
 }
 

@@ -50,9 +50,13 @@ with_reply c reply = record {
   said = c.said + length reply;
 }
 
+-- what is counted with some replies more
+abbrev pub counted_from : Count → List (List ℕ) → Count
+counted_from c replies = fold with_reply c replies
+
 -- what is counted of some replies
 abbrev pub counted : List (List ℕ) → Count
-counted replies = fold with_reply nothing_counted replies
+counted replies = counted_from nothing_counted replies
 
 -- what is said of a run with so many values that are put
 abbrev pub summary : ℕ → Count → List ℕ

@@ -28,7 +28,7 @@ use Rattle.abc_parse.specs.declared.parts.Part.TheVariants as p
 use Rattle.abc_parse.specs.declared.parts.Root.{Root}
 use Rattle.abc_parse.specs.Items.{refinement_kind}
 use Rattle.abc_parse.specs.Readings.{action_in, command_of, command_over, command_with, cut_of, first_action, first_action_in, headed_by, made, over_title, parts_with, suite_of, unit_of, unit_parts_of, unit_parts_over, unit_with}
-use Rattle.abc_parse.specs.Roots.{kept, parts_of, taken}
+use Rattle.abc_parse.specs.Roots.{kept, taken}
 use Rattle.abc_parse.specs.Trees.{made_alone, made_over, root}
 use Rattle.abc_faults.proofs.Around.{at_most}
 use Rattle.abc_parse.proofs.EachLine.{Has, OfRefinements, IsSoundCut, depth_beside, each_cut, found, part_alone, part_over, suite_has, turned}

@@ -6,7 +6,6 @@ use Rattle.abc_tree.specs.RegularItems as piece
 use Rattle.abc_tree.specs.RegularItems.{Part as Piece}
 use Rattle.abc_tree.specs.declared.commands.Action.{Action}
 use Rattle.abc_tree.specs.declared.commands.ActionNode.{ActionNode}
-use Rattle.abc_tree.specs.declared.commands.Command.{Command}
 use Rattle.abc_tree.specs.declared.commands.Refinement.{Refinement}
 use Rattle.abc_tree.specs.declared.commands.RefinementKind.{RefinementKind}
 use Rattle.abc_outline.specs.declared.edges.Edges.{Edges}

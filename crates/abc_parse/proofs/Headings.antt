@@ -241,6 +241,20 @@ module _ (laws : ReadingLaws) (facts : Facts) where
       let d = sym (has_each (taken facts above).roles here.named x) ∙ sym (found_if (text_eq x) (roles_more above row)) ∙ c in
       (or_parts (has (taken facts above).roles x) (has here.named x) d).0
 
+  -- the names that a heading gives as refinements begin with its own
+  pub first_word : (above : List Row) (row : Row) (rows : List Row) (clause : Clause) → Says facts above row clause → is_refinement (role_at facts above row) ≡ true
+      → (rest : List (List ℕ)) × ((names_here facts above row).refined ≡ heading_name row.read ∷ rest)
+  first_word above row rows clause says heading =
+      let x = heading_head facts (refinement_kind facts) (role_at facts above row) clause.head clause.beside (it_suits facts above row clause says) heading in
+      let h = headed above row clause says heading x.0 x.1 in
+      let here = refined_here facts.setting.unit h.by in
+      let role_is = heading_role (role_at facts above row) heading in
+      let name : x.0 ≡ heading_name row.read = sym (ap heading_name h.are ∙ word_is h.by) in (
+        here.0,
+        ap (λ (r : Role). (names_of facts.setting.unit r row.read).refined) role_is ∙ ap (λ read. (names_of facts.setting.unit role.RefinementHeading read).refined) h.are ∙ here.1
+            ∙ ap (λ word. word ∷ here.0) name,
+      )
+
   new_step : (above : List Row) (row : Row) (rows : List Row) (clause : Clause) → Says facts above row clause → cause facts above row rows ≡ None → (ss : List Refined) → AreNew (row ∷ above) rows ss
       → (b : Bool) → is_refinement (role_at facts above row) ≡ b → AreNew above (row ∷ rows) (if b then refined_at facts.setting (edges above) row rows ∷ ss else ss)
   new_step above row rows clause says fine ss ih false plain =
@@ -361,7 +375,7 @@ module _ (laws : ReadingLaws) (targets : List (List ℕ)) (row : Row) (rows : Li
   unfolding refinements
   new_all say f = each_new laws facts [] say f
 
-  behind_title : facts.setting.unit ≡ true → refined_from facts.setting (row.edges ∷ []) rows ≡ refinements all
+  pub behind_title : facts.setting.unit ≡ true → refined_from facts.setting (row.edges ∷ []) rows ≡ refinements all
   unfolding refinements
   behind_title unit = sym (ap (λ u. if is_refinement (first_role u) then refined_at facts.setting [] row rows ∷ refined_from facts.setting (row.edges ∷ []) rows else refined_from facts.setting (row.edges ∷ []) rows) unit)
 

@@ -1,6 +1,6 @@
 -- Each item that is computed for its lines is well formed.
 use Rattle.std.proofs.Common.{◌≡◌, ◌≤◌, ◌+◌, ℕ, suc, true, List, [], ◌∷◌, length, map, Option, Some, None, refl, ap, sym, ◌∙◌, subst, arith}
-use Rattle.std.specs.Prelude.{◌==◌, Err, IfOk, Ok, Result, nat_le, nat_lt, option_map, slice_get}
+use Rattle.std.specs.Prelude.{◌==◌, if◌then◌else◌, nat_le, nat_lt, option_map, slice_get}
 use Rattle.std.specs.List.{AllByRecursion, list_all}
 use Rattle.std.proofs.lemmas.Bool.{and_from, le-leb}
 use Rattle.std.proofs.lemmas.List.{length-map}
@@ -26,7 +26,6 @@ use Rattle.abc_outline.specs.Outline.{first_role}
 use Rattle.abc_outline.specs.Rows.{row_of, rows_of}
 use Rattle.abc_clauses.specs.declared.clause.Clause.{Clause}
 use Rattle.abc_clauses.specs.declared.clause.Head.TheVariants as head
-use Rattle.abc_clauses.specs.RegularClauses.{any_exits}
 use Rattle.abc_faults.specs.declared.facts.Facts.{Facts}
 use Rattle.abc_faults.specs.declared.sayings.Saying.{Saying}
 use Rattle.abc_faults.specs.Causes.{cause}
@@ -36,9 +35,8 @@ use Rattle.abc_faults.specs.Facts.{clause_by, facts_of, kind_by_read, place_belo
 use Rattle.abc_faults.specs.Faults.{fault_from}
 use Rattle.abc_faults.specs.Sayings.{AllSay, next_line, saying}
 use Rattle.abc_faults.proofs.Leasts.{or_none}
-use Rattle.abc_parse.specs.declared.fault.ItemFault.{ItemFault}
 use Rattle.abc_parse.specs.Readings.{command_of, item_of, unit_of}
-use Rattle.abc_parse.specs.WellFormed.{IsWellFormed, IsWellFormedCommand, IsWellFormedUnit, are_in_order, is_in_order}
+use Rattle.abc_parse.proofs.WellFormed.{IsWellFormed, IsWellFormedCommand, IsWellFormedUnit, are_in_order, is_in_order}
 use Rattle.abc_parse.proofs.Different.{names_different}
 use Rattle.abc_parse.proofs.EachItem.{command_has, command_told, unit_has, unit_told}
 use Rattle.abc_parse.proofs.EachLine.{Has, OfRefinements, turned}
@@ -54,21 +52,6 @@ use Rattle.abc_parse.proofs.SimpleNodes.{ReadingLaws, may_leave}
 use Rattle.abc_parse.proofs.Titles.{heading_places, heading_plain, line_told, title_kind, title_said}
 
 -- ---- tests of what holds
-
--- where it may stand, each thing is in order
-numbered_so : (x : Piece) → IsLineNumber x → is_in_order any_exits x ≡ true
-numbered_so (piece.line n) h = and_from _ _ (le-leb 1 n h.0) (le-leb n MOST_LINES h.1)
-numbered_so (piece.value x) h = refl
-numbered_so (piece.address x) h = refl
-numbered_so (piece.example x) h = refl
-numbered_so (piece.test x) h = refl
-numbered_so (piece.bound x) h = refl
-numbered_so piece.quits h = refl
-numbered_so piece.returns h = refl
-numbered_so piece.reports h = refl
-numbered_so (piece.calls f n) h = refl
-numbered_so (piece.refinement x) h = refl
-numbered_so piece.early_else h = absurd h
 
 -- the same exits, as they are told of lines and of trees
 record SameExits (told : ToldExits) (exits : Exits) : Type 0 where
@@ -118,9 +101,6 @@ module _ (facts : Facts) (o : Option ℕ) (exits : Exits) (so : (d : ℕ) (x : P
   deeper_in_order [] a = refl
   deeper_in_order (x ∷ xs) a =
       and_from _ _ (and_from _ _ (le-leb (suc x.0) MOST_SUITES (one_deeper x.0 MOST_SUITES a.0.few)) (so (1 + x.0) x.1 a.0)) (deeper_in_order xs a.1)
-
-any_so : (facts : Facts) (o : Option ℕ) (d : ℕ) (x : Piece) → IsLimited facts o d x → is_in_order any_exits x ≡ true
-any_so facts o d x is = numbered_so x is.line
 
 body_so : (facts : Facts) (d : ℕ) (x : Piece) → IsLimited facts None d x → is_in_order (exits_of facts.kind) x ≡ true
 body_so facts d x is = left_so (told_exits facts.kind) (exits_of facts.kind) (body_exits facts.kind) x is.line is.leaves
@@ -209,7 +189,8 @@ module _ (laws : ReadingLaws) (lines : List Line) (targets : List (List ℕ)) (r
         plain = heading_plain said.1;
         places = heading_places said.1;
         few_formals = le-leb (length u.formals) MOST_FORMALS (few_places facts [] row rows clause says fine u.template u.formals is);
-        kind_is = title_kind laws.kinds facts n row.line.text t.tokens clause u.template u.formals h is ∙ sym (ap kind_by_read t.are);
+        kind_is = title_kind laws.kinds facts n row.line.text t.tokens clause u.template u.formals h is ∙ sym (ap kind_by_read t.are)
+            ∙ sym (ap (λ b. if b then kind_by_read row.read else kind.Command) unit);
       }
 
   unit_formed : (u : Routine) → MakesUnit lines facts row rows u → IsWellFormedUnit u
@@ -239,10 +220,12 @@ module _ (laws : ReadingLaws) (lines : List Line) (targets : List (List ℕ)) (r
   command_formed : (c : Command) → MakesCommand facts row rows c → IsWellFormedCommand c
   command_formed c m =
       let names = command_names m.say c m.is in
+      let kind_is : facts.kind ≡ kind.Command = ap (λ b. if b then kind_by_read row.read else kind.Command) m.unit in
       record {
         different = different c.names names;
         few_names = few_all c.names names m.say m.fine;
-        parts = here_in_order facts None any_exits (any_so facts None) (parts_of c.action) (command_has (IsLimited facts) facts row rows m.fine each m.unit m.say c m.is);
+        parts = subst (λ k. are_in_order (exits_of k) (parts_of c.action) ≡ true) kind_is
+            (here_in_order facts None (exits_of facts.kind) (body_so facts) (parts_of c.action) (command_has (IsLimited facts) facts row rows m.fine each m.unit m.say c m.is));
         lines = command_rises top laws facts row all_lines m.say c m.is;
       }
 
@@ -256,9 +239,3 @@ well_formed laws lines targets it e = by (rows_of lines) (sym (length-map lines 
   by : (rows : List Row) → length lines ≡ length rows → Makes lines targets rows it → IsWellFormed it
   by [] count m = absurd m
   by (row ∷ rows) count m = formed laws lines targets row rows count it m
-
--- the same of an answer
-pub formed_of : (lines : List Line) (targets : List (List ℕ)) → ((lines : List Line) (targets : List (List ℕ)) (it : Item) → item_of lines targets ≡ Some it → IsWellFormed it)
-    → (answer : Result Item ItemFault) → IfOk answer (λ it. item_of lines targets ≡ Some it) → IfOk answer IsWellFormed
-formed_of lines targets law (Ok it) h = law lines targets it h
-formed_of lines targets law (Err x) h = tt

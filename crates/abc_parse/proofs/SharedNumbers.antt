@@ -148,6 +148,20 @@ module _ (laws : ReadingLaws) (facts : Facts) (unit : facts.setting.unit ≡ tru
         by : {ts : List Lexeme} → role_at facts above row ≡ role.Command → row.read ≡ Ok ts → IsShare names ts → AreAmong named tokens names
         by r are (as_line p) = all_among named tokens names (λ x e. (in_named r are p x e, in_tokens are p x e))
 
+    -- they are the names that the line gives as such
+    pub shares_here : (names : List (List ℕ)) → clause.head ≡ head.Share names → (names_here facts above row).named ≡ names
+    shares_here names is =
+        let r = command_role (role_at facts above row) names clause.beside (subst (λ h. suits (role_at facts above row) h clause.beside ≡ true) is (it_suits facts above row clause says)) in
+        let t = line_told facts (place_below facts above row) row clause says in
+        let n = (place_below facts above row).number in
+        let e = subst (λ (r : Role). clause_by facts r n row.line.text t.tokens ≡ Some clause) r t.says in
+        by r t.are (clause_shares n row.line.text t.tokens clause names e is)
+      where
+        by : {ts : List Lexeme} → role_at facts above row ≡ role.Command → row.read ≡ Ok ts → IsShare names ts → (names_here facts above row).named ≡ names
+        by r are (as_line p) =
+            ap (λ (r : Role). (names_of facts.setting.unit r row.read).named) r ∙ ap (λ u. (names_of u role.Command row.read).named) unit ∙ ap (λ read. (names_of true role.Command read).named) are
+            ∙ named_are p
+
     row_among : AreAmong named tokens (shared_by clause.head)
     row_among = by clause.head refl where
       by : (h : Head) → clause.head ≡ h → AreAmong named tokens (shared_by h)
@@ -187,12 +201,17 @@ module _ (laws : ReadingLaws) (targets : List (List ℕ)) (row : Row) (rows : Li
   abbrev facts : Facts
   facts = facts_of targets (row ∷ rows)
 
+  pub shared_known : facts.setting.unit ≡ true → {clause : Clause} {rest : List Saying} → Says facts [] row clause → AllSay facts (row ∷ []) rows rest
+      → AllByRecursion (λ x. has facts.names x ≡ true) (all_shared rest)
+  shared_known unit {rest = rest} says say =
+      let among = behind_among (names_from facts.setting (row.edges ∷ []) rows) (all_name_tokens rows) (all_of (names_here facts [] row)) (row_tokens row.read) (all_shared rest)
+      (each_among laws facts unit (row ∷ []) say) in
+      names_there targets (row ∷ rows) (all_shared rest) among
+
   pub shared_there : facts.setting.unit ≡ true → (lines : List Line) {sayings : List Saying} → AllSay facts [] (row ∷ rows) sayings → (u : Routine) → unit_of facts lines sayings ≡ Some u
       → list_all (λ (i : NameId). nat_lt i.0 (length facts.names)) u.shared ≡ true
   shared_there unit lines (next_line {clause = clause} {lines = rest} says say) u e =
       let m = unit_told facts lines (saying row clause) rest u e in
-      let among = behind_among (names_from facts.setting (row.edges ∷ []) rows) (all_name_tokens rows) (all_of (names_here facts [] row)) (row_tokens row.read) (all_shared rest)
-      (each_among laws facts unit (row ∷ []) say) in
       let is : u.shared ≡ numbered facts.names (all_shared rest) = ap (λ (u : Routine). u.shared) m.is in
       subst (λ (ids : List NameId). list_all (λ (i : NameId). nat_lt i.0 (length facts.names)) ids ≡ true) (sym is)
-      (numbers_there facts.names (all_shared rest) (names_there targets (row ∷ rows) (all_shared rest) among))
+      (numbers_there facts.names (all_shared rest) (shared_known unit says say))

@@ -6,7 +6,6 @@ use Rattle.abc_num.specs.declared.lines.Line.{Line}
 use Rattle.abc_tree.specs.declared.commands.Action.{Action}
 use Rattle.abc_tree.specs.declared.commands.ActionNode.{ActionNode}
 use Rattle.abc_tree.specs.declared.commands.ActionNode.TheVariants as node
-use Rattle.abc_tree.specs.declared.commands.Alternative.{Alternative}
 use Rattle.abc_tree.specs.declared.commands.Command.{Command}
 use Rattle.abc_tree.specs.declared.commands.Environment.{Environment}
 use Rattle.abc_tree.specs.declared.commands.Item.{Item}
@@ -41,7 +40,7 @@ use Rattle.abc_parse.specs.Items.{refinement_kind, all_shared, numbered, command
 use Rattle.abc_parse.specs.Trees.{behind, made_alone, root, Reads, none, plain, over, Suited, Sections, end, same, refinement, refined}
 use Rattle.abc_faults.specs.Sayings.{saying, AllSay, stop, next_line}
 use Rattle.abc_faults.proofs.Around.{at_most, around_same, chosen_first}
-use Rattle.abc_parse.proofs.Formed.{is_way, Good, quiet, it_suits, ends, selects, next_low, first_indent, read_over, read_alone, faultless_cut, first_command, suit, placed, Commands, Follows, not_refined}
+use Rattle.abc_parse.proofs.Formed.{is_way, Good, quiet, it_suits, ends, next_low, first_indent, read_over, read_alone, faultless_cut, first_command, suit, placed, Commands, Follows, not_refined}
 use Rattle.abc_faults.proofs.Leasts.{or_none}
 use Rattle.abc_parse.proofs.Joining.{one_reading, one_suite, one_cut, not_empty_reads, alone_none}
 

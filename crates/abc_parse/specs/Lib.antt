@@ -4,5 +4,6 @@ pub mod Roots
 pub mod Trees
 pub mod Items
 pub mod Readings
-pub mod WellFormed
+pub mod RegularTemplates
+pub mod RegularTrees
 pub mod inner

@@ -7,12 +7,13 @@ ghost use Rattle.abc_faults.specs.Judging.{AreFit};
 ghost use Rattle.abc_faults.specs.declared.fault.Fault.{Fault};
 ghost use Rattle.abc_parse.specs.Items.{SpellsItem};
 ghost use Rattle.abc_parse.specs.Readings.{item_of, item_of_rows};
-ghost use Rattle.abc_parse.specs.WellFormed.{IsWellFormed};
+ghost use Rattle.abc_parse.specs.RegularTemplates.{HasRegularTemplates};
+ghost use Rattle.abc_parse.specs.RegularTrees.{IsNumberedItem, IsRegularItem};
 ghost use Rattle.abc_parse.specs.inner.Building.{Answers, AsksAlone, SaysSpelled};
 
 use crate::building::build;
 use crate::fault::ItemFault;
-use crate::laws::well_formed_items;
+use crate::laws::{numbered_items, regular_items, regular_templates};
 use abc_faults::{Fault, Judged, asked, asks_by, environment_fault, facts_of, judge};
 use abc_num::{ItemLines, Names};
 use abc_outline::{Row, rows_of};
@@ -74,10 +75,14 @@ pub fn parse_item(alloc: Global, lines: &ItemLines, targets: &Names) -> Result<I
     requires short { All IsShort lines.now }
     ensures computed { IfOk result (λ item. item_of lines.now targets.now ≡ Some item) }
     ensures tree { IfOk result (λ item. SpellsItem lines.now targets.now item × (item_fault lines.now targets.now ≡ None)) }
-    ensures formed { IfOk result IsWellFormed }
+    ensures regular { IfOk result IsRegularItem }
+    ensures numbers { IfOk result IsNumberedItem }
+    ensures templates { IfOk result HasRegularTemplates }
     ensures fault { (at : Fault) → result ≡ Err (ItemFault.At at) → item_fault lines.now targets.now ≡ Some at }
 {
-    well_formed_items();
+    regular_items();
+    numbered_items();
+    regular_templates();
     let rows = rows_of(alloc, lines.as_slice())?;
     parse_rows(alloc, lines, rows.as_slice(), targets)
 }

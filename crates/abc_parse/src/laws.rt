@@ -7,10 +7,12 @@ ghost use Rattle.abc_tree.specs.declared.commands.Item.{Item};
 ghost use Rattle.abc_faults.specs.Faults.{item_fault};
 ghost use Rattle.abc_parse.specs.Items.{SpellsItem};
 ghost use Rattle.abc_parse.specs.Readings.{item_of};
-ghost use Rattle.abc_parse.specs.WellFormed.{IsWellFormed};
+ghost use Rattle.abc_parse.specs.RegularTemplates.{HasRegularTemplates};
+ghost use Rattle.abc_parse.specs.RegularTrees.{IsNumberedItem, IsRegularItem};
 
 use abc_clauses::{
     computed_alternative, computed_command, computed_heading, computed_refinement, edges_of_lines,
+    lines_are_regular,
 };
 
 /// Lines have at most one item.
@@ -35,14 +37,38 @@ pub fn unit_alone()
     ensures tree { (lines : List Line) (s t : List (List ℕ)) (item : Item) → is_unit (rows_of lines) ≡ true → SpellsItem lines s item → SpellsItem lines t item }
 {}
 
-/// The item that is computed for lines is well formed: its names are different and not too many, its suites few, its lines those
-/// of the item and in their order, and the formals of a unit fill its template.
-pub fn well_formed_items()
-    ensures { (lines : List Line) (targets : List (List ℕ)) (item : Item) → item_of lines targets ≡ Some item → IsWellFormed item }
+/// The template of the unit that is computed for lines is regular, and so is each that an item calls.
+pub fn regular_templates()
+    ensures { (lines : List Line) (targets : List (List ℕ)) (item : Item) → item_of lines targets ≡ Some item → HasRegularTemplates item }
 {
     computed_command();
     computed_alternative();
     computed_heading();
     computed_refinement();
     edges_of_lines();
+    lines_are_regular();
+}
+
+/// The command or unit that is computed for lines is regular.
+pub fn regular_items()
+    ensures { (lines : List Line) (targets : List (List ℕ)) (item : Item) → item_of lines targets ≡ Some item → IsRegularItem item }
+{
+    computed_command();
+    computed_alternative();
+    computed_heading();
+    computed_refinement();
+    edges_of_lines();
+    lines_are_regular();
+}
+
+/// The numbers that are written in the command or unit that is computed for lines are numbers.
+pub fn numbered_items()
+    ensures { (lines : List Line) (targets : List (List ℕ)) (item : Item) → item_of lines targets ≡ Some item → IsNumberedItem item }
+{
+    computed_command();
+    computed_alternative();
+    computed_heading();
+    computed_refinement();
+    edges_of_lines();
+    lines_are_regular();
 }

@@ -13,5 +13,8 @@ mod shares;
 
 pub use fault::ItemFault;
 pub use items::parse_item;
-pub use laws::{computed_item, faultless, one_item, unit_alone, well_formed_items};
+pub use laws::{
+    computed_item, faultless, numbered_items, one_item, regular_items, regular_templates,
+    unit_alone,
+};
 pub use parts::{Part, Root};

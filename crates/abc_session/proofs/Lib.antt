@@ -6,3 +6,4 @@ mod Served
 mod Places
 mod Turns
 mod Runs
+mod Summing

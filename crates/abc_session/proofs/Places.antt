@@ -18,6 +18,7 @@ use Rattle.abc_reader.specs.Items.{next_item}
 use Rattle.abc_reader.specs.Reading.{Reading, fresh, ends_at, lines_behind, lines_at, MayFollow, UsesLines, ReadLines, TookItem, WantsMore, AsksMore}
 use Rattle.abc_reader.proofs.Asks.{asked_weaker, asked_then}
 use Rattle.abc_reader.proofs.Feeding.{read_none, read_then}
+use Rattle.abc_make.specs.Summary.{Count, nothing_counted, counted_from, counted}
 use Rattle.abc_store.specs.Commit.{Work}
 use Rattle.abc_outcome.specs.Outcome.{Behind, Outcome}
 use Rattle.abc_outcome.specs.Answers.{behind_at, CameTo, WantsInside, AsksInside}
@@ -26,7 +27,7 @@ use Rattle.abc_session.specs.Session.{outcome, item_came, session_from, session_
 use Rattle.abc_session.specs.Serving.{OpensTo}
 use Rattle.abc_session.specs.Settled.{settled, AsksSettled, IsWaiting}
 use Rattle.abc_session.specs.Run.{HasEnded}
-use Rattle.abc_session.specs.inner.Place.{Place, start_place, place_at, input_ends, lines_left, session_at, WentOn, IsOver, Ended, WasServed, WantsInput, AsksInput}
+use Rattle.abc_session.specs.inner.Place.{Place, start_place, place_at, input_ends, lines_left, session_at, counted_at, WentOn, IsOver, Ended, WasServed, WantsInput, AsksInput}
 use Rattle.abc_session.proofs.Broken.{told_served, idle_between}
 use Rattle.abc_session.proofs.Items.{none_session, waiting_session, unless_quit, item_session, item_waits}
 use Rattle.abc_session.proofs.Served.{after_both, work_both, served}
@@ -117,7 +118,8 @@ came_here f old new left left_new work answer to =
 
 -- A session that read one item more at a place, which led to another, and served it there.
 module _ (bounds : Bounds) (steps : ℕ) (tells_said : Type 0) (old mid new : Place) (item : List Line) (took : TookItem old.reading old.left mid.reading mid.left (Some item))
-    (number : mid.served ≡ suc old.served) (kept : mid.work ≡ old.work) (same : mid.said ≡ old.said) (last : Bool) (was : WasServed (outcome bounds steps mid.served mid.work item) tells_said mid new last)
+    (number : mid.served ≡ suc old.served) (kept : mid.work ≡ old.work) (same : mid.said ≡ old.said) (count count_new : Count) (last : Bool)
+    (was : WasServed (outcome bounds steps mid.served mid.work item) tells_said mid new count count_new last)
     (stays : mid.reading.ended ≡ true → new.reading.ended ≡ true) where
   abbrev reply : List ℕ
   reply = was.answer.reply
@@ -155,6 +157,10 @@ module _ (bounds : Bounds) (steps : ℕ) (tells_said : Type 0) (old mid new : Pl
       (took.begins ended (was.answered.lines ++ rest) (follows_before mid.reading new.reading mid.left new.left was.answered.lines stays was.answered.were_read ended rest follows))
       reply new.work (new.reading.ahead ++ rest) last (comes_then ended rest follows)
 
+  -- the session by this item
+  here_then : session_at bounds steps old ≡ then_turn reply new.work (unless_quit last (session_from bounds steps (input_ends new) (suc (suc old.served)) new.work (lines_left new)))
+  here_then = whole_read bounds steps old new lines were_read ∙ session_then (input_ends new) (lines_behind new.reading new.left) (λ _. (refl, refl))
+
   -- and goes on
   pub past_item : new.served ≡ mid.served → last ≡ false → WentOn bounds steps tells_said old new
   past_item same_number on = record {
@@ -176,12 +182,27 @@ module _ (bounds : Bounds) (steps : ℕ) (tells_said : Type 0) (old mid new : Pl
   past_quit off = record {
     turns = turn ∷ [];
     ending = quit;
-    is = whole_read bounds steps old new lines were_read ∙ session_then (input_ends new) (lines_behind new.reading new.left) (λ _. (refl, refl))
-        ∙ ap (λ q. then_turn reply new.work (unless_quit q (session_from bounds steps (input_ends new) (suc (suc old.served)) new.work (new.reading.ahead ++ lines_behind new.reading new.left)))) off;
+    is = here_then ∙ ap (λ q. then_turn reply new.work (unless_quit q (session_from bounds steps (input_ends new) (suc (suc old.served)) new.work (lines_left new)))) off;
     work_is = refl;
     said_is = said_then;
     is_over = tt;
   }
+
+  -- its reply was counted, and those of the session that is left are still to be
+  pub counts_on : new.served ≡ mid.served → last ≡ false → counted_at bounds steps old count ≡ counted_at bounds steps new count_new
+  counts_on same_number on =
+      let n : suc (suc old.served) ≡ suc new.served = omega (arith, same_number, number) in
+      ap (λ s. counted_from count (replies s))
+      (here_then ∙ ap (λ q. then_turn reply new.work (unless_quit q (session_from bounds steps (input_ends new) (suc (suc old.served)) new.work (lines_left new)))) on
+      ∙ ap (λ m. then_turn reply new.work (session_from bounds steps (input_ends new) m new.work (lines_left new))) n)
+      ∙ ap (counted_at bounds steps new) (sym was.counts)
+
+  -- its reply was the last one
+  pub counts_last : last ≡ true → counted_at bounds steps old count ≡ count_new
+  counts_last off =
+      ap (λ s. counted_from count (replies s))
+      (here_then ∙ ap (λ q. then_turn reply new.work (unless_quit q (session_from bounds steps (input_ends new) (suc (suc old.served)) new.work (lines_left new)))) off)
+      ∙ sym was.counts
 
 -- no further item is whole
 pub wants_item : (bounds : Bounds) (steps : ℕ) (place : Place) (n : ℕ) → WantsMore place.reading place.left n → WantsInput bounds steps place n
@@ -233,22 +254,32 @@ pub asks_item : (bounds : Bounds) (steps : ℕ) (place : Place) (a b : List (ℕ
 asks_item bounds steps place a b asks = asked_weaker (AsksMore place.reading place.left (length place.said)) (AsksInput bounds steps place) a b (λ x ask. (wants_item bounds steps place x.0 ask.0, ask.1)) asks
 
 -- there is no further item
-pub past_end : (bounds : Bounds) (steps : ℕ) (tells_said : Type 0) (old new : Place) → TookItem old.reading old.left new.reading new.left None → (new.reading.ended ≡ true → new.left ≡ []) → new.work ≡ old.work → new.said ≡ old.said
-    → Ended bounds steps tells_said old new
-past_end bounds steps tells_said old new took at_end same said =
+pub none_left : (bounds : Bounds) (steps : ℕ) (old new : Place) → TookItem old.reading old.left new.reading new.left None → session_at bounds steps old ≡ ends over
+none_left bounds steps old new took =
     let none = took.begins in
     let lines : lines_left old ≡ old.reading.ahead ++ took.lines =
     ap (λ ls. old.reading.ahead ++ ls) (took.were_read.split ∙ ap (λ ls. took.lines ++ ls) none.2 ∙ append-nil took.lines) in
     let ends_so : input_ends old ≡ true = sym took.were_read.ends ∙ none.4 in
-    record {
-      turns = [];
-      ending = over;
-      is = ap (λ ls. session_from bounds steps (input_ends old) (suc old.served) old.work ls) lines ∙ ap (λ e. session_from bounds steps e (suc old.served) old.work (old.reading.ahead ++ took.lines)) ends_so
-          ∙ none_session bounds steps true (suc old.served) old.work (old.reading.ahead ++ took.lines) none.0;
-      work_is = same;
-      said_is = λ told. said ∙ sym (append-nil old.said);
-      is_over = (at_end none.3, none.4);
-    }
+    ap (λ ls. session_from bounds steps (input_ends old) (suc old.served) old.work ls) lines ∙ ap (λ e. session_from bounds steps e (suc old.served) old.work (old.reading.ahead ++ took.lines)) ends_so
+    ∙ none_session bounds steps true (suc old.served) old.work (old.reading.ahead ++ took.lines) none.0
+
+pub past_end : (bounds : Bounds) (steps : ℕ) (tells_said : Type 0) (old new : Place) → TookItem old.reading old.left new.reading new.left None → (new.reading.ended ≡ true → new.left ≡ []) → new.work ≡ old.work → new.said ≡ old.said
+    → Ended bounds steps tells_said old new
+past_end bounds steps tells_said old new took at_end same said = record {
+  turns = [];
+  ending = over;
+  is = none_left bounds steps old new took;
+  work_is = same;
+  said_is = λ told. said ∙ sym (append-nil old.said);
+  is_over = (at_end took.begins.3, took.begins.4);
+}
+
+-- before the first item all replies are still to be counted
+pub starts_counting : (bounds : Bounds) (steps : ℕ) (work : Work) (old : Outside) (reader : Reading) (count : Count) → reader ≡ fresh bounds.input → count ≡ nothing_counted
+    → counted_at bounds steps (place_at 0 work reader old) count ≡ counted (replies (session_of bounds steps work old.left))
+starts_counting bounds steps work old reader count is none =
+    ap (λ r. counted_at bounds steps (place_at 0 work r old) count) is ∙ ap (counted_at bounds steps (start_place work bounds.input old)) none
+    ∙ ap (λ s. counted (replies s)) (start_session bounds steps work old)
 
 -- the items up to a place were served, and those from there on are left
 pub went_on : (bounds : Bounds) (steps : ℕ) (start : Work) (first : Outside) (tells_said : Type 0) (place : Place) → WentOn bounds steps tells_said (start_place start bounds.input first) place

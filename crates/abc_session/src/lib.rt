@@ -2,6 +2,8 @@
 #![tactic(auto)]
 
 mod laws;
+mod made;
+mod product;
 mod running;
 mod say;
 mod serve;

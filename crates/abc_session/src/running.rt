@@ -1,8 +1,9 @@
 //! The run: words in, a status out.
-ghost use Rattle.std.specs.Prelude.{◌≡◌, ◌≢◌, ◌⊎◌, ◌≤◌, suc, ℕ, map, length, List, Err, Some, option_map};
+ghost use Rattle.std.specs.Prelude.{◌≡◌, ◌≢◌, ◌⊎◌, ◌≤◌, suc, ℕ, map, length, List, Err, None, Some, option_map};
 ghost use Rattle.abc_outside.specs.Stop.{Leaves, IsQuiet, Now};
 ghost use Rattle.abc_journal.specs.Journal.{BeginsQuiet};
-ghost use Rattle.abc_turns.specs.Session.{waiting};
+ghost use Rattle.abc_make.specs.Summary.{counted, nothing_counted};
+ghost use Rattle.abc_turns.specs.Session.{replies, waiting};
 ghost use Rattle.abc_reader.specs.Asking.{Asked, AskedRising};
 ghost use Rattle.abc_store.specs.Opening.{Opens};
 ghost use Rattle.abc_store.specs.Commit.{Work};
@@ -11,14 +12,16 @@ ghost use Rattle.abc_session.specs.Session.{session_of};
 ghost use Rattle.abc_session.specs.Serving.{IsStill, IsSessionPoint};
 ghost use Rattle.abc_session.specs.Product.{product_bounds};
 ghost use Rattle.abc_session.specs.Settled.{AsksSettled};
-ghost use Rattle.abc_session.specs.Run.{steps_named, IsStart, IsComplete, IsUntouched, IsRunStatus, HasCause, StandsSo, IsRun};
+ghost use Rattle.abc_session.specs.Run.{made_named, steps_named, IsStart, IsComplete, IsUntouched, IsRunStatus, HasCause, StandsSo, IsRun};
 
+use crate::made::run_made;
+use crate::product::product;
 use crate::session::{SessionStop, serve_all};
 use crate::status::{
     COMPLETE, INPUT_FAULT, INPUT_TOO_LONG, MEMORY, NOT_A_STORE, SINK_FAULT, STORE_FAULT, USAGE,
 };
 use abc_journal::{BeginFault, Bounds};
-use abc_num::limits::{CHECKPOINT_BOUND, IMAGE_BOUND, INPUT_BOUND};
+use abc_make::Tally;
 use abc_outside::{ChooseFault, Host};
 use abc_store::Store;
 use abc_store::laws::images_open_to_one;
@@ -43,11 +46,19 @@ fn status_of(stop: SessionStop) -> u8
     }
 }
 
-/// Opens the store that was chosen, and serves the items of the input.
-fn run_store<H: Host>(alloc: Global, host: &mut H, b: &Bounds, steps: u64) -> u8
-    requires { (H.now host.old).taken ≡ 0 }
+/// Opens the store that was chosen, serves the items of the input, and counts the replies.
+pub(crate) fn run_store<H: Host>(
+    alloc: Global,
+    host: &mut H,
+    tally: &mut Tally,
+    b: &Bounds,
+    steps: u64,
+) -> u8
+    requires taken { (H.now host.old).taken ≡ 0 }
+    requires none_counted { tally.old ≡ nothing_counted }
 
     ensures complete { H.tells_image → H.tells_said → H.tells_input → result ≡ COMPLETE → IsComplete b.now steps (H.now host.old) (H.now host.new) }
+    ensures counted { H.tells_image → H.tells_input → result ≡ COMPLETE → (work : Work) → IsStart (H.now host.old).image work → tally.new ≡ counted (replies (session_of b.now steps work (H.now host.old).left)) }
     ensures status { IsRunStatus result }
     ensures cause { HasCause H.tells_image H.tells_input b.now (H.now host.old) (H.now host.new) result }
     ensures refused { H.tells_image → (at : ℕ) → Opens (H.now host.old).image (Err at) → (result ≡ NOT_A_STORE) ⊎ (result ≡ STORE_FAULT) ⊎ (result ≡ MEMORY) }
@@ -75,7 +86,7 @@ fn run_store<H: Host>(alloc: Global, host: &mut H, b: &Bounds, steps: u64) -> u8
         Err(BeginFault::NotAStore { .. }) => return NOT_A_STORE,
         Err(BeginFault::Memory) => return MEMORY,
     };
-    match serve_all(alloc, &mut store, host, b.input, steps) {
+    match serve_all(alloc, &mut store, host, tally, b.input, steps) {
         Ok(()) => COMPLETE,
         Err(stop) => status_of(stop),
     }
@@ -95,14 +106,15 @@ fn run_named<H: Host>(
 {
     images_open_to_one();
     match host.choose(store, input) {
-        Ok(()) => run_store(alloc, host, b, steps),
+        Ok(()) => run_store(alloc, host, &mut Tally::new(), b, steps),
         Err(ChooseFault::Store) => STORE_FAULT,
         Err(ChooseFault::Input) => INPUT_FAULT,
     }
 }
 
 /// Runs with these bounds: reads the words, chooses and opens the store and the input, serves the items of the input one
-/// after the other, and says their replies. The answer is the status.
+/// after the other, and says their replies. Where the words ask for a made input, it runs that in a store of its own, with the
+/// bounds of the product, and says its summary. The answer is the status.
 pub fn run_within<H: Host>(alloc: Global, words: &[&str], host: &mut H, b: &Bounds) -> u8
     ensures run { IsRun H.tells_chosen H.tells_image H.tells_input H.tells_said H.now H.clock H.stopped b.now (map (λ word. word.now) words.now) (steps_named (map (λ word. word.now) words.now)) host.old host.new result }
 {
@@ -114,7 +126,7 @@ pub fn run_within<H: Host>(alloc: Global, words: &[&str], host: &mut H, b: &Boun
                 steps,
             },
         ) => run_named(alloc, store, input, steps, host, b),
-        Ok(Request::Make { .. }) => USAGE,
+        Ok(Request::Make { count, steps }) => run_made(alloc, count, steps, host),
         Err(WordsFault::Usage) => USAGE,
         Err(WordsFault::Memory) => MEMORY,
     }
@@ -124,17 +136,13 @@ pub fn run_within<H: Host>(alloc: Global, words: &[&str], host: &mut H, b: &Boun
 ///
 /// The theorem of the program is the clause `headline`: whenever it is stopped, it had said a front of the output of the
 /// session over its input, and whatever image the stop left in the store opens to the workspace after some of the items.
-/// These are all the items of whose reply a byte was said, and at most one more than those whose reply was said whole.
+/// These are all the items of whose reply a byte was said, and at most one more than those whose reply was said whole. Where
+/// the words ask for a made input, only its summary is said, and all else is untouched.
 pub fn run<H: Host>(alloc: Global, words: &[&str], host: &mut H) -> u8
-    ensures headline { H.tells_image → H.tells_said → H.tells_input → IsStill H.clock H.stopped host.old (H.now host.old).image
+    ensures headline { made_named (map (λ word. word.now) words.now) ≡ None → H.tells_image → H.tells_said → H.tells_input → IsStill H.clock H.stopped host.old (H.now host.old).image
         → (work : Work) → IsStart (H.now host.old).image work
         → (c s : List ℕ) → H.stopped host.new (H.clock host.old) c s → IsSessionPoint work (session_of product_bounds (steps_named (map (λ word. word.now) words.now)) work (H.now host.old).left) (H.now host.old).said c s }
     ensures run { IsRun H.tells_chosen H.tells_image H.tells_input H.tells_said H.now H.clock H.stopped product_bounds (map (λ word. word.now) words.now) (steps_named (map (λ word. word.now) words.now)) host.old host.new result }
 {
-    let bounds = Bounds {
-        input: INPUT_BOUND,
-        image: IMAGE_BOUND,
-        checkpoint: CHECKPOINT_BOUND,
-    };
-    run_within(alloc, words, host, &bounds)
+    run_within(alloc, words, host, &product())
 }

@@ -1,5 +1,5 @@
 //! The serving of one item.
-ghost use Rattle.std.specs.Prelude.{◌≡◌, ◌≤◌, ◌<◌, ◌⊎◌, List, ℕ, true, length, IfOk, OnOk, IsOk, IsErrOf, IsTrue};
+ghost use Rattle.std.specs.Prelude.{◌≡◌, ◌≤◌, ◌<◌, ◌⊎◌, ◌+◌, ◌-◌, ◌^◌, List, ℕ, true, length, IfOk, OnOk, IsOk, IsErrOf, IsTrue};
 ghost use Rattle.std.specs.List.{AllByRecursion};
 ghost use Rattle.abc_num.specs.declared.limits.TheConstants.{MOST_LINE_BYTES};
 ghost use Rattle.abc_outside.specs.Outside.{RoseByOne, IsFaultless};
@@ -14,6 +14,7 @@ ghost use Rattle.abc_session.specs.Serving.{OpensTo, IsItemStop, NoneFell, OnlyI
 ghost use Rattle.abc_session.specs.inner.Place.{place_at, WasServed, WasCut};
 
 use crate::say::say_all;
+use abc_make::Tally;
 use abc_num::ItemLines;
 use abc_outcome::{AnswerFault, answer_item};
 use abc_outside::{Failed, Host};
@@ -55,13 +56,14 @@ fn stop_of_answer(fault: AnswerFault) -> ServeStop
 }
 
 /// Serves item `k`, which may take so many steps, and takes the lines that it wants from those behind it: what it changes
-/// is kept, and then its reply is said.
+/// is kept, and then its reply is said and counted.
 pub(crate) fn serve_item<H: Host>(
     alloc: Global,
     store: &mut Store,
     host: &mut H,
     reader: &mut Reader,
     item: &ItemLines,
+    tally: &mut Tally,
     k: u64,
     steps: u64,
 ) -> Result<Served, ServeStop>
@@ -70,9 +72,11 @@ pub(crate) fn serve_item<H: Host>(
     requires stands { StandsAt H.tells_input reader.old (H.now host.old) }
     requires some { 0 < length item.now }
     requires short { AllByRecursion (λ line. length line.text ≤ MOST_LINE_BYTES) item.now }
+    requires countable { tally.old.items < 2 ^ 64 - 1 }
 
     ensures served { H.tells_input → IfOk result (λ done. WasServed (outcome store.old.bounds steps k (work_of store.old) item.now) H.tells_said
-        (place_at k (work_of store.old) reader.old (H.now host.old)) (place_at k (work_of store.new) reader.new (H.now host.new)) done.quit) }
+        (place_at k (work_of store.old) reader.old (H.now host.old)) (place_at k (work_of store.new) reader.new (H.now host.new)) tally.old tally.new done.quit) }
+    ensures counted { OnOk result (tally.new.items ≡ tally.old.items + 1) }
     ensures cut { H.tells_said → H.tells_input → IsErrOf result ServeStop.SinkFault → WasCut (outcome store.old.bounds steps k (work_of store.old) item.now)
         (place_at k (work_of store.old) reader.old (H.now host.old)) (place_at k (work_of store.new) reader.new (H.now host.new)) }
     ensures unsaid { (IsErrOf result ServeStop.Input ⊎ IsErrOf result ServeStop.Long ⊎ IsErrOf result ServeStop.StoreFault ⊎ IsErrOf result ServeStop.Memory)
@@ -115,10 +119,14 @@ pub(crate) fn serve_item<H: Host>(
         Ok(answered) => answered,
         Err(fault) => return Err(stop_of_answer(fault)),
     };
-    match say_all(host, answered.reply.bytes()) {
-        Ok(()) => Ok(Served {
-            quit: answered.quit,
-        }),
+    let reply = answered.reply.bytes();
+    match say_all(host, reply) {
+        Ok(()) => {
+            tally.add(reply);
+            Ok(Served {
+                quit: answered.quit,
+            })
+        }
         Err(Failed) => Err(ServeStop::SinkFault),
     }
 }

@@ -5,15 +5,17 @@ ghost use Rattle.abc_outside.specs.Stop.{Leaves, IsQuiet, Now};
 ghost use Rattle.abc_turns.specs.Session.{waiting, replies, output, works, last_work};
 ghost use Rattle.abc_turns.specs.Stops.{IsBetween, IsBroken, IsCutShort};
 ghost use Rattle.abc_reader.specs.Asking.{Asked, AskedRising, next_ask};
+ghost use Rattle.abc_make.specs.Summary.{counted, nothing_counted};
 ghost use Rattle.abc_store.specs.Commit.{Holds};
 ghost use Rattle.abc_store.specs.View.{work_of};
 ghost use Rattle.abc_session.specs.Session.{session_of};
 ghost use Rattle.abc_session.specs.Serving.{OpensTo, IsSessionPoint, NoneFell, OnlyInputFailed, OnlyStoreFailed, OnlySinkFailed};
 ghost use Rattle.abc_session.specs.Settled.{AsksSettled, IsWaiting};
 ghost use Rattle.abc_session.specs.Run.{HasEnded};
-ghost use Rattle.abc_session.specs.inner.Place.{place_at, session_at, WentOn, Ended, WantsInput, AsksInput};
+ghost use Rattle.abc_session.specs.inner.Place.{place_at, session_at, counted_at, WentOn, Ended, WantsInput, AsksInput};
 
 use crate::serve::{ServeStop, serve_item};
+use abc_make::Tally;
 use abc_outside::{Host, LineStop};
 use abc_reader::Reader;
 use abc_store::Store;
@@ -60,12 +62,14 @@ fn stop_of_item(stop: ServeStop) -> SessionStop
     }
 }
 
-/// Serves the next item, if there is one. False at the end of the session: its input is over, or the item quits.
+/// Serves the next item, if there is one, and counts its reply. False at the end of the session: its input is over, or the
+/// item quits.
 fn turn<H: Host>(
     alloc: Global,
     store: &mut Store,
     host: &mut H,
     reader: &mut Reader,
+    tally: &mut Tally,
     served: &mut u64,
     steps: u64,
 ) -> Result<bool, SessionStop>
@@ -74,11 +78,17 @@ fn turn<H: Host>(
     requires same_count { (H.now host.old).taken ≡ reader.old.taken }
     requires ended { H.tells_input → reader.old.ended ≡ true → (H.now host.old).left ≡ [] }
     requires counted { served.old ≤ reader.old.used }
+    requires countable { tally.old.items ≤ served.old }
 
     ensures goes_on { H.tells_input → result ≡ Ok true → WentOn store.old.bounds steps H.tells_said
         (place_at served.old (work_of store.old) reader.old (H.now host.old)) (place_at served.new (work_of store.new) reader.new (H.now host.new)) }
     ensures ends { H.tells_input → result ≡ Ok false → Ended store.old.bounds steps H.tells_said
         (place_at served.old (work_of store.old) reader.old (H.now host.old)) (place_at served.new (work_of store.new) reader.new (H.now host.new)) }
+
+    // What is counted with the replies that are left stays, and at the end none is left.
+    ensures tallied { H.tells_input → result ≡ Ok true → counted_at store.old.bounds steps (place_at served.old (work_of store.old) reader.old (H.now host.old)) tally.old
+        ≡ counted_at store.old.bounds steps (place_at served.new (work_of store.new) reader.new (H.now host.new)) tally.new }
+    ensures tallied_whole { H.tells_input → result ≡ Ok false → counted_at store.old.bounds steps (place_at served.old (work_of store.old) reader.old (H.now host.old)) tally.old ≡ tally.new }
 
     ensures input_fault { IsErrOf result SessionStop.Input → RoseByOne (H.now host.old).input_faults (H.now host.new).input_faults }
     ensures store_fault { IsErrOf result SessionStop.StoreFault → RoseByOne (H.now host.old).store_faults (H.now host.new).store_faults }
@@ -93,6 +103,7 @@ fn turn<H: Host>(
 
     ensures falls { result ≡ Ok true → reader.old.used < reader.new.used }
     ensures counted { OnOk result (served.new ≤ reader.new.used) }
+    ensures countable { OnOk result (tally.new.items ≤ served.new) }
     ensures total { H.tells_input → reader.new.taken + length (H.now host.new).left ≡ reader.old.taken + length (H.now host.old).left }
     ensures counts { (H.now host.new).taken ≡ reader.new.taken }
     ensures ended { H.tells_input → OnOk result (reader.new.ended ≡ true → (H.now host.new).left ≡ []) }
@@ -140,17 +151,18 @@ fn turn<H: Host>(
         Err(stop) => return Err(stop_of_line(stop)),
     };
     *served += 1;
-    match serve_item(alloc, store, host, reader, &item, *served, steps) {
+    match serve_item(alloc, store, host, reader, &item, tally, *served, steps) {
         Ok(done) => Ok(!done.quit),
         Err(stop) => Err(stop_of_item(stop)),
     }
 }
 
-/// Serves the items of the input in order, each of them kept and then answered.
+/// Serves the items of the input in order, each of them kept and then answered, and counts the replies.
 pub(crate) fn serve_all<H: Host>(
     alloc: Global,
     store: &mut Store,
     host: &mut H,
+    tally: &mut Tally,
     bound: u64,
     steps: u64,
 ) -> Result<(), SessionStop>
@@ -158,9 +170,11 @@ pub(crate) fn serve_all<H: Host>(
     requires holds { H.tells_image → Holds (H.now host.old).image (work_of store.old) }
     requires none_taken { (H.now host.old).taken ≡ 0 }
     requires same_bound { bound ≡ store.old.bounds.input }
+    requires none_counted { tally.old ≡ nothing_counted }
 
     ensures said { H.tells_said → H.tells_input → OnOk result ((H.now host.new).said ≡ (H.now host.old).said
         ++ output (session_of store.old.bounds steps (work_of store.old) (H.now host.old).left)) }
+    ensures counted { H.tells_input → OnOk result (tally.new ≡ counted (replies (session_of store.old.bounds steps (work_of store.old) (H.now host.old).left))) }
     ensures work { H.tells_input → OnOk result (work_of store.new ≡ last_work (work_of store.old) (session_of store.old.bounds steps (work_of store.old) (H.now host.old).left)) }
     ensures holds { H.tells_image → OnOk result (Holds (H.now host.new).image (work_of store.new)) }
     ensures ended { H.tells_input → OnOk result (HasEnded (session_of store.old.bounds steps (work_of store.old) (H.now host.old).left).ending store.old.bounds.input (H.now host.old) (H.now host.new)) }
@@ -205,6 +219,6 @@ pub(crate) fn serve_all<H: Host>(
 {
     let mut reader = Reader::new(alloc, bound);
     let mut served = 0;
-    'items: while turn(alloc, store, host, &mut reader, &mut served, steps)? {}
+    'items: while turn(alloc, store, host, &mut reader, tally, &mut served, steps)? {}
     Ok(())
 }

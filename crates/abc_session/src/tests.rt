@@ -4,8 +4,9 @@ use crate::{
     items_are_steady, run, run_within, statuses_are_numbered,
 };
 use abc_journal::Bounds;
-use abc_outside::{CallKind, MemoryHost};
+use abc_outside::{CallKind, MemoryHost, RealHost};
 use std::alloc::{AllocError, Global};
+use std::fs;
 use std::test::Fail;
 
 const WORDS: [&str; 1] = ["my.store"];
@@ -229,7 +230,7 @@ struct Bounded {
     size: usize,
 }
 
-const BOUNDED: [Bounded; 18] = [
+const BOUNDED: [Bounded; 19] = [
     Bounded {
         words: &WORDS,
         input: "WRITE 1",
@@ -369,6 +370,17 @@ const BOUNDED: [Bounded; 18] = [
         status: COMPLETE,
         said: "[1] fault line 1: BudgetSpent\n1\n[2] ok\n",
         size: 65,
+    },
+    // The bounds of a made input are those of the product, and the host's own input and image are left alone.
+    Bounded {
+        words: &["--make", "3"],
+        input: "WRITE 1\n",
+        most_input: 1,
+        most_image: 1,
+        most_checkpoint: 1,
+        status: COMPLETE,
+        said: "made 3: items 6, ok 5, units 1, faults 0, said 60 bytes\n",
+        size: 0,
     },
     Bounded {
         words: &["my.store", "--steps", "0"],
@@ -659,5 +671,37 @@ fn what_stands_in_the_store(rt: HostRuntime) -> Result<(), Fail> {
     let again = ran(alloc, &WORDS, &put.image, "WRITE x\n", &BOUNDS)?;
     assert_eq!(rt; again.said.as_slice(), "1\n[1] ok\n".as_bytes());
     assert_eq!(rt; again.image, put.image);
+    Ok(())
+}
+
+// The second call that says fails.
+#[test]
+fn a_summary_is_cut_short(rt: HostRuntime) -> Result<(), Fail> {
+    let mut host = host_of(rt.alloc(), &[0; 66], "WRITE 1\n")?;
+    host.say_at_most(4);
+    host.fail_at(CallKind::Say, 2)?;
+    let status = run(rt.alloc(), &["--make", "2", "--steps", "1"], &mut host);
+    assert_eq!(rt; status, SINK_FAULT);
+    assert_eq!(rt; host.said(), "made".as_bytes());
+    assert_eq!(rt; host.image(), [0; 66].as_slice());
+    Ok(())
+}
+
+/// Runs over files of these names, the input with these bytes.
+fn ran_on_files(rt: HostRuntime, input: &str) -> Result<u8, Fail> {
+    fs::write(&rt, "run.input", input)?;
+    let words = ["run.store", "--from", "run.input"];
+    Ok(run(rt.alloc(), &words, &mut RealHost::new(rt)))
+}
+
+#[test]
+fn files_keep_the_workspace(rt: HostRuntime) -> Result<(), Fail> {
+    let _ = fs::remove_file(&rt, "run.store");
+    for input in ["PUT 41 IN x\nWRITE x\n", "WRITE x\n"] {
+        assert_eq!(rt; ran_on_files(rt, input)?, COMPLETE);
+        assert_eq!(rt; fs::read(&rt, "run.store")?.len(), 101);
+    }
+    fs::remove_file(&rt, "run.store")?;
+    fs::remove_file(&rt, "run.input")?;
     Ok(())
 }

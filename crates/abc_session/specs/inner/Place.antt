@@ -5,8 +5,9 @@ use Rattle.std.specs.List.{concat}
 use Rattle.abc_num.specs.declared.lines.RawLine.{RawLine}
 use Rattle.abc_outside.specs.Outside.{Outside}
 use Rattle.abc_journal.specs.declared.layout.Bounds.{Bounds}
-use Rattle.abc_turns.specs.Session.{Ending, over, quit, waiting, Turn, Session, ends, after_turns, replies_of, work_after}
+use Rattle.abc_turns.specs.Session.{Ending, over, quit, waiting, Turn, Session, ends, after_turns, replies_of, replies, work_after}
 use Rattle.abc_reader.specs.Reading.{Reading, fresh, ends_at, lines_at, MayFollow, ReadLines}
+use Rattle.abc_make.specs.Summary.{Count, with_reply, counted_from}
 use Rattle.abc_store.specs.Commit.{Work}
 use Rattle.abc_outcome.specs.Outcome.{Behind, Outcome}
 use Rattle.abc_outcome.specs.Answers.{CameTo}
@@ -68,11 +69,12 @@ pub record Ended (bounds : Bounds) (steps : ℕ) (tells_said : Type 0) (old new 
   pub said_is : tells_said → new.said ≡ old.said ++ concat (replies_of turns)
   pub is_over : IsOver ending new
 
--- An item that comes to this outcome was answered at a place, which led to another, and its whole reply was said.
-pub record WasServed (outcome : Behind → Outcome) (tells_said : Type 0) (old new : Place) (quit : Bool) : Type 0 where
+-- An item that comes to this outcome was answered at a place, which led to another, and its whole reply was said and counted.
+pub record WasServed (outcome : Behind → Outcome) (tells_said : Type 0) (old new : Place) (counted counted_new : Count) (quit : Bool) : Type 0 where
   pub answer : Answer
   pub answered : CameTo outcome old.reading old.left new.reading new.left new.work answer
   pub quits : answer.quit ≡ quit
+  pub counts : counted_new ≡ with_reply counted answer.reply
   pub said_is : tells_said → new.said ≡ old.said ++ answer.reply
 
 -- It was answered, and a front of its reply was said, and not all of it.
@@ -92,3 +94,7 @@ WantsInput bounds steps place taken_now =
 -- a read where the session waits, and nothing was said since
 abbrev pub AsksInput : Bounds → ℕ → Place → ℕ × ℕ → Type 0
 AsksInput bounds steps place ask = WantsInput bounds steps place ask.0 × (ask.1 ≡ length place.said)
+
+-- what is counted with the replies of the session from there on
+abbrev pub counted_at : Bounds → ℕ → Place → Count → Count
+counted_at bounds steps place counted = counted_from counted (replies (session_at bounds steps place))

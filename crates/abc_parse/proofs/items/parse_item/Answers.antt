@@ -1,5 +1,7 @@
 use Rattle.abc_parse.proofs.Said.{answers_slice, computed_of, fit_slice, tree_of}
-use Rattle.abc_parse.proofs.Settled.{formed_of}
+use Rattle.abc_parse.proofs.ItemsRegular.{answered}
+use Rattle.abc_parse.specs.RegularTemplates.{HasRegularTemplates}
+use Rattle.abc_parse.specs.RegularTrees.{IsNumberedItem, IsRegularItem}
 use Rattle.abc_parse.proofs.items.parse_item.Goals as goal
 
 pub parse_rows-requires-clause-fit : goal.parse_rows-requires-clause-fit
@@ -16,8 +18,20 @@ returns-clause-tree c =
     tree_of c.args.lines.now c.args.targets.now c.parse_rows.result
     (answers_slice c.args.lines.now c.as_slice.result.now c.in_ok-rows.rows c.as_slice-2.result.now c.as_slice.ensures c.in_ok-rows.ensures.rows c.as_slice-2.ensures c.args.targets.now c.parse_rows.result c.parse_rows.ensures)
 
-pub returns-clause-formed : goal.returns-clause-formed
-returns-clause-formed c =
-    formed_of c.args.lines.now c.args.targets.now c.well_formed_items.ensures c.parse_rows.result
+pub returns-clause-regular : goal.returns-clause-regular
+returns-clause-regular c =
+    answered IsRegularItem c.args.lines.now c.args.targets.now c.regular_items.ensures c.parse_rows.result
+    (computed_of c.args.lines.now c.args.targets.now c.parse_rows.result
+    (answers_slice c.args.lines.now c.as_slice.result.now c.in_ok-rows.rows c.as_slice-2.result.now c.as_slice.ensures c.in_ok-rows.ensures.rows c.as_slice-2.ensures c.args.targets.now c.parse_rows.result c.parse_rows.ensures))
+
+pub returns-clause-numbers : goal.returns-clause-numbers
+returns-clause-numbers c =
+    answered IsNumberedItem c.args.lines.now c.args.targets.now c.numbered_items.ensures c.parse_rows.result
+    (computed_of c.args.lines.now c.args.targets.now c.parse_rows.result
+    (answers_slice c.args.lines.now c.as_slice.result.now c.in_ok-rows.rows c.as_slice-2.result.now c.as_slice.ensures c.in_ok-rows.ensures.rows c.as_slice-2.ensures c.args.targets.now c.parse_rows.result c.parse_rows.ensures))
+
+pub returns-clause-templates : goal.returns-clause-templates
+returns-clause-templates c =
+    answered HasRegularTemplates c.args.lines.now c.args.targets.now c.regular_templates.ensures c.parse_rows.result
     (computed_of c.args.lines.now c.args.targets.now c.parse_rows.result
     (answers_slice c.args.lines.now c.as_slice.result.now c.in_ok-rows.rows c.as_slice-2.result.now c.as_slice.ensures c.in_ok-rows.ensures.rows c.as_slice-2.ensures c.args.targets.now c.parse_rows.result c.parse_rows.ensures))

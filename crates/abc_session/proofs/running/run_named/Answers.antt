@@ -7,7 +7,7 @@ use Rattle.abc_store.specs.Opening.{Opens}
 use Rattle.abc_store.specs.Commit.{Work, Holds}
 use Rattle.abc_session.specs.declared.status.TheConstants.{NOT_A_STORE}
 use Rattle.abc_session.specs.Session.{session_of}
-use Rattle.abc_session.specs.Run.{store_in, chose, IsStart}
+use Rattle.abc_session.specs.Run.{store_in, made_in, chose, IsStart}
 use Rattle.abc_session.specs.Serving.{IsStill}
 use Rattle.abc_session.specs.Settled.{AsksSettled}
 use Rattle.abc_reader.proofs.Asks.{none_asked}
@@ -47,29 +47,32 @@ returns-in-Err-Store g c =
         complete = search rules;
         status_is = search rules;
         usage = search rules;
-        none_named = λ none. absurd (cc (ap store_in reads, none));
+        unread = λ none. absurd (cc (reads, none));
         cause = search rules;
         refused = search rules;
         waits = search rules;
         most_taken = search rules;
         completeness = search rules;
         usage_nothing = search rules;
+        unread_nothing = λ none. absurd (cc (reads, none));
         untouched = search rules;
         untouched_stops = search rules;
         chosen = search rules;
+        none_chosen = λ none. absurd (cc (ap store_in reads, none));
         asked = λ told told_said told_input work start. none_asked_by g chosen c.args.steps work;
         asks_rise = search rules;
-        stands = λ told told_said told_input still work start. inr (record {
+        stands = λ unmade told told_said told_input still work start. inr (record {
           waiting = search rules;
           between = search rules;
           broken = λ _. idle_broken work (session_of c.args.b.now c.args.steps work old.left) old.said mid.said (g.H.Host.stopped c.choose.new.self (g.H.Host.clock c.choose.new.self)) c.choose.ensures.rest.said
               (choice_now g.H.Host.clock g.H.Host.stopped c.args.host.now c.choose.new.self old.image work still start c.choose.ensures.stop);
           cut_short = search rules;
         });
-        headline = λ told told_said told_input still work start.
+        headline = λ unmade told told_said told_input still work start.
             choice_points g.H.Host.clock g.H.Host.stopped c.args.host.now old.image old.said work (session_of c.args.b.now c.args.steps work old.left)
             still (g.met.H.Host.says_now c.args.host.now) start c.choose.new.self c.choose.ensures.time c.choose.ensures.stop;
         last = search rules;
+        made = λ count is. absurd (cc (ap made_in reads, is));
       };
     }
 
@@ -83,29 +86,32 @@ returns-in-Err-Input g c =
         complete = search rules;
         status_is = search rules;
         usage = search rules;
-        none_named = λ none. absurd (cc (ap store_in reads, none));
+        unread = λ none. absurd (cc (reads, none));
         cause = search rules;
         refused = search rules;
         waits = search rules;
         most_taken = search rules;
         completeness = search rules;
         usage_nothing = search rules;
+        unread_nothing = λ none. absurd (cc (reads, none));
         untouched = search rules;
         untouched_stops = search rules;
         chosen = search rules;
+        none_chosen = λ none. absurd (cc (ap store_in reads, none));
         asked = λ told told_said told_input work start. none_asked_by g chosen c.args.steps work;
         asks_rise = search rules;
-        stands = λ told told_said told_input still work start. inl (record {
+        stands = λ unmade told told_said told_input still work start. inl (record {
           input_fault = refl;
           chosen = search rules;
           taken = search rules;
           said = search rules;
           image = choice_now g.H.Host.clock g.H.Host.stopped c.args.host.now c.choose.new.self old.image work still start c.choose.ensures.stop;
         });
-        headline = λ told told_said told_input still work start.
+        headline = λ unmade told told_said told_input still work start.
             choice_points g.H.Host.clock g.H.Host.stopped c.args.host.now old.image old.said work (session_of c.args.b.now c.args.steps work old.left)
             still (g.met.H.Host.says_now c.args.host.now) start c.choose.new.self c.choose.ensures.time c.choose.ensures.stop;
         last = search rules;
+        made = λ count is. absurd (cc (ap made_in reads, is));
       };
     }
 
@@ -117,10 +123,10 @@ returns-in-Ok g c =
     let chosen = (goal.at.returns-in-Ok g c).After-choose in
     record {
       run = λ words reads. record {
-        complete = λ told told_said told_input is. same_complete c.args.b.now c.args.steps old mid new c.choose.ensures.rest.image c.choose.ensures.rest.left c.choose.ensures.rest.said (c.run_store.ensures.complete told told_said told_input is);
+        complete = λ unmade told told_said told_input is. same_complete c.args.b.now c.args.steps old mid new c.choose.ensures.rest.image c.choose.ensures.rest.left c.choose.ensures.rest.said (c.run_store.ensures.complete told told_said told_input is);
         status_is = search rules;
         usage = search rules;
-        none_named = λ none. absurd (cc (ap store_in reads, none));
+        unread = λ none. absurd (cc (reads, none));
         cause = search rules;
         refused = search rules;
         waits = λ told told_input work start is. of_choice g chosen (λ l t. (session_of c.args.b.now c.args.steps work l).ending ≡ waiting) (c.run_store.ensures.waits told told_input work (chosen_start g chosen work start) is);
@@ -131,26 +137,29 @@ returns-in-Ok g c =
             not_wrong c.images_open_to_one.ensures.one old.image kept found.0 right (subst (λ (i : List ℕ). Opens i (Err found.0)) c.choose.ensures.rest.image found.1) in
             search rules;
         usage_nothing = search rules;
+        unread_nothing = λ none. absurd (cc (reads, none));
         untouched = search rules;
         untouched_stops = search rules;
         chosen = λ told named is. inl (c.run_store.ensures.chosen ∙ c.in-Ok.ensures.chosen told ∙ ap (λ n. chose n old.chosen) (names_one words _ _ _ reads named is));
+        none_chosen = λ none. absurd (cc (ap store_in reads, none));
         asked = λ told told_said told_input work start.
             subst (λ (a : List (ℕ × ℕ)). Asked (AsksSettled c.args.b.now c.args.steps work old.left (length old.said)) a new.asked) c.choose.ensures.rest.asked
             (of_choice g chosen (λ l t. Asked (AsksSettled c.args.b.now c.args.steps work l (length t)) mid.asked new.asked) (c.run_store.ensures.asked told told_said told_input work (chosen_start g chosen work start)));
         asks_rise = search rules;
-        stands = λ told told_said told_input still work start.
+        stands = λ unmade told told_said told_input still work start.
             inr (same_stands c.args.b.now c.args.steps work old mid new (g.H.Host.stopped c.run_store.new.host (g.H.Host.clock c.run_store.new.host)) c.run_store.result c.choose.ensures.rest.left c.choose.ensures.rest.said
             (c.run_store.ensures.stands told told_said told_input (chosen_quiet g chosen still) work (chosen_start g chosen work start)));
-        headline = λ told told_said told_input still work start.
+        headline = λ unmade told told_said told_input still work start.
             run_points g.H.Host.clock g.H.Host.stopped c.args.host.now old.image old.said work (session_of c.args.b.now c.args.steps work old.left)
             still (g.met.H.Host.says_now c.args.host.now) start c.choose.new.self c.run_store.new.host mid.image mid.said (session_of c.args.b.now c.args.steps work mid.left) c.choose.ensures.time c.choose.ensures.stop
             (ap (λ (l : List ℕ). session_of c.args.b.now c.args.steps work l) c.choose.ensures.rest.left) c.choose.ensures.rest.said
             (c.run_store.ensures.stops told told_said told_input (chosen_quiet g chosen still) work (chosen_start g chosen work start));
-        last = λ told told_said told_input still is work start i s stop.
+        last = λ unmade told told_said told_input still is work start i s stop.
             let all = c.run_store.ensures.complete told told_said told_input is in
             let same : all.start ≡ work = one_start c.images_open_to_one.ensures.one mid.image all.start work all.is_start (chosen_start g chosen work start) in
             let last : last_work all.start (session_of c.args.b.now c.args.steps all.start mid.left) ≡ last_work work (session_of c.args.b.now c.args.steps work old.left) =
             ap (λ w. last_work w (session_of c.args.b.now c.args.steps w mid.left)) same ∙ ap (λ (l : List ℕ). last_work work (session_of c.args.b.now c.args.steps work l)) c.choose.ensures.rest.left in
             last_opens new.image i _ (subst (λ w. Holds new.image w) last all.holds) (c.run_store.ensures.quiet told (chosen_quiet g chosen still) is i s stop);
+        made = λ count is. absurd (cc (ap made_in reads, is));
       };
     }

@@ -7,6 +7,7 @@ use Rattle.abc_outside.proofs.Leaves.{run_after}
 use Rattle.abc_turns.specs.Session.{replies, output, works, last_work, waiting}
 use Rattle.abc_turns.specs.Stops.{IsBetween, IsBroken, IsCutShort}
 use Rattle.abc_reader.specs.Asking.{Asked}
+use Rattle.abc_make.specs.Summary.{counted}
 use Rattle.abc_store.specs.Commit.{Work, Holds}
 use Rattle.abc_store.specs.View.{work_of}
 use Rattle.abc_session.specs.Session.{session_of}
@@ -88,6 +89,10 @@ returns-in-Ok-serve_all-clause-complete g c told told_said told_input _ =
       holds = of_run g at (λ b w l t. Holds new.image (last_work w (session_of b c.args.steps w l))) told store start (subst (λ w. Holds new.image w) (c.in-Ok-serve_all.ensures.work told_input) (c.in-Ok-serve_all.ensures.holds told));
       ended = same_input (session_of c.args.b.now c.args.steps store old.left).ending c.args.b.now.input old (g.H.Host.now c.begin.new.host) new c.begin.ensures.rest.left (of_run g at (λ b w l t. HasEnded (session_of b c.args.steps w l).ending b.input (g.H.Host.now c.begin.new.host) new) told store start (c.in-Ok-serve_all.ensures.ended told_input));
     }
+
+pub returns-in-Ok-serve_all-clause-counted : goal.returns-in-Ok-serve_all-clause-counted
+returns-in-Ok-serve_all-clause-counted g c told told_input _ work start =
+    of_run g (goal.at.returns-in-Ok-serve_all-clause-counted g c).After-serve_all (λ b w l t. c.serve_all.new.tally ≡ counted (replies (session_of b c.args.steps w l))) told work start (c.in-Ok-serve_all.ensures.counted told_input)
 
 pub returns-in-Err-StoreFault-clause-stands : goal.returns-in-Err-StoreFault-clause-stands
 returns-in-Err-StoreFault-clause-stands g c told told_said told_input quiet work start =

@@ -1,6 +1,7 @@
 use Rattle.std.proofs.Common.{◌<◌, ◌∙◌, ◌++◌, List, ℕ, length, take, refl, sym, ap, subst}
 use Rattle.abc_outside.specs.Stop.{Leaves, IsQuiet}
 use Rattle.abc_turns.proofs.Points.{commit_then_say}
+use Rattle.abc_make.specs.Summary.{with_reply}
 use Rattle.abc_store.specs.View.{work_of}
 use Rattle.abc_outcome.specs.Answers.{behind_at, work_in, CameTo}
 use Rattle.abc_session.specs.Session.{outcome}
@@ -31,8 +32,8 @@ served g c told told_said told_input quiet =
     let is = came_here (outcome c.args.store.now.bounds c.args.steps c.args.k work c.args.item.now) c.args.reader.now c.answer_item.new.reader old.left mid.left (work_of c.answer_item.new.store) c.in-Ok.answered (c.in-Ok.ensures.came told_input) in
     commit_then_say g.H.Host.clock g.H.Host.stopped OpensTo c.args.host.now c.answer_item.new.host c.say_all.new.host work (work_in work out) (reply_in out) old.said
     (c.answer_item.ensures.stops told told_input quiet)
-    (saying_stops g.H.Host.clock g.H.Host.stopped c.answer_item.new.host c.say_all.new.host mid.image old.said mid.said c.bytes.result.now (reply_in out) (work_of c.answer_item.new.store) (work_in work out)
-    (ap reply_in is ∙ sym c.bytes.ensures) c.answer_item.ensures.said (sym (ap (work_in work) is)) (c.in-Ok.ensures.holds told) (c.in-Ok.ensures.quiet told quiet) (c.say_all.ensures.stops told_said))
+    (saying_stops g.H.Host.clock g.H.Host.stopped c.answer_item.new.host c.say_all.new.host mid.image old.said mid.said c.bytes-reply.result.now (reply_in out) (work_of c.answer_item.new.store) (work_in work out)
+    (ap reply_in is ∙ sym c.bytes-reply.ensures) c.answer_item.ensures.said (sym (ap (work_in work) is)) (c.in-Ok.ensures.holds told) (c.in-Ok.ensures.quiet told quiet) (c.say_all.ensures.stops told_said))
 
 pub returns-in-Ok-say_all-clause-stops : goal.returns-in-Ok-say_all-clause-stops
 returns-in-Ok-say_all-clause-stops g c told told_said told_input quiet = served g (goal.at.returns-in-Ok-say_all-clause-stops g c).After-say_all told told_said told_input quiet
@@ -45,7 +46,8 @@ returns-in-Ok-say_all-clause-served g c told_input = record {
   answer = c.in-Ok.answered;
   answered = answered g (goal.at.returns-in-Ok-say_all-clause-served g c).After-say_all told_input;
   quits = refl;
-  said_is = λ told_said. c.in-Ok-say_all.ensures.all told_said ∙ ap (λ (l : List ℕ). l ++ c.bytes.result.now) c.answer_item.ensures.said ∙ ap (λ (l : List ℕ). (g.H.Host.now c.args.host.now).said ++ l) c.bytes.ensures;
+  counts = c.add.ensures ∙ ap (with_reply c.args.tally.now) c.bytes-reply.ensures;
+  said_is = λ told_said. c.in-Ok-say_all.ensures.all told_said ∙ ap (λ (l : List ℕ). l ++ c.bytes-reply.result.now) c.answer_item.ensures.said ∙ ap (λ (l : List ℕ). (g.H.Host.now c.args.host.now).said ++ l) c.bytes-reply.ensures;
 }
 
 pub returns-clause-cut : goal.returns-clause-cut
@@ -55,6 +57,6 @@ returns-clause-cut g c told_said told_input fault =
       answer = c.in-Ok.answered;
       answered = answered g (goal.at.returns-clause-cut g c).After-say_all told_input;
       count = part.0;
-      short = subst (λ (l : List ℕ). part.0 < length l) c.bytes.ensures part.1;
-      said_is = part.2 ∙ ap (λ (l : List ℕ). l ++ take part.0 c.bytes.result.now) c.answer_item.ensures.said ∙ ap (λ (l : List ℕ). (g.H.Host.now c.args.host.now).said ++ take part.0 l) c.bytes.ensures;
+      short = subst (λ (l : List ℕ). part.0 < length l) c.bytes-reply.ensures part.1;
+      said_is = part.2 ∙ ap (λ (l : List ℕ). l ++ take part.0 c.bytes-reply.result.now) c.answer_item.ensures.said ∙ ap (λ (l : List ℕ). (g.H.Host.now c.args.host.now).said ++ take part.0 l) c.bytes-reply.ensures;
     }

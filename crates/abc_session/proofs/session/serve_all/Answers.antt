@@ -1,4 +1,4 @@
-use Rattle.std.proofs.Common.{rules, ◌∙◌, suc, length, refl, ap, subst}
+use Rattle.std.proofs.Common.{rules, ◌≡◌, ◌∙◌, suc, length, refl, sym, ap, subst, arith}
 use Rattle.std.proofs.lemmas.Bool.{false_from_ne_true}
 use Rattle.abc_journal.specs.declared.layout.Bounds.{Bounds}
 use Rattle.abc_outside.specs.Stop.{Leaves, IsQuiet}
@@ -6,16 +6,17 @@ use Rattle.abc_turns.specs.Session.{Session, replies, works}
 use Rattle.abc_turns.specs.Stops.{HasServed, IsBroken, IsCutShort}
 use Rattle.abc_turns.proofs.Endings.{between_later, broken_later, cut_later}
 use Rattle.abc_reader.specs.Asking.{Asked, AskedRising, next_ask}
+use Rattle.abc_make.specs.Summary.{Count}
 use Rattle.abc_store.specs.Commit.{Work}
 use Rattle.abc_store.specs.View.{work_of}
 use Rattle.abc_session.specs.Session.{session_of}
 use Rattle.abc_session.specs.Serving.{OpensTo, IsSessionPoint}
 use Rattle.abc_session.specs.Settled.{AsksSettled}
-use Rattle.abc_session.specs.inner.Place.{Place, start_place, place_at, session_at, WentOn, Ended, WantsInput, AsksInput}
+use Rattle.abc_session.specs.inner.Place.{Place, start_place, place_at, session_at, counted_at, WentOn, Ended, WantsInput, AsksInput}
 use Rattle.abc_reader.specs.Reading.{fresh}
 use Rattle.abc_reader.proofs.Asks.{rising_then, rising_ends}
 use Rattle.abc_session.proofs.Broken.{told_served, idle_between}
-use Rattle.abc_session.proofs.Places.{begins, went_then, went_on, waits, waits_on, turn_asks, said_all, kept_all, ended_all}
+use Rattle.abc_session.proofs.Places.{begins, starts_counting, went_then, went_on, waits, waits_on, turn_asks, said_all, kept_all, ended_all}
 use Rattle.abc_session.proofs.Turns.{then_stops}
 use Rattle.abc_session.proofs.session.serve_all.Given.{Over}
 use Rattle.abc_session.proofs.session.serve_all.Goals.{After-turn}
@@ -78,6 +79,13 @@ went_all g c told goes =
     (of_bounds g c (λ b. WentOn b c.args.steps g.H.Host.tells_said (here g c) (place_at c.turn.new.served (work_of c.turn.new.store) c.turn.new.reader (g.H.Host.now c.turn.new.host))) goes)
     c.turn.ensures.stays_ended
 
+-- what was counted, by the bounds at the start
+tallied_on : (g : Over) (c : After-turn g)
+    → counted_at c.items.store.bounds c.args.steps (here g c) c.items.tally ≡ counted_at c.items.store.bounds c.args.steps (place_at c.turn.new.served (work_of c.turn.new.store) c.turn.new.reader (g.H.Host.now c.turn.new.host)) c.turn.new.tally
+    → counted_at (limit g c) c.args.steps (here g c) c.items.tally ≡ counted_at (limit g c) c.args.steps (place_at c.turn.new.served (work_of c.turn.new.store) c.turn.new.reader (g.H.Host.now c.turn.new.host)) c.turn.new.tally
+tallied_on g c same =
+    of_bounds g c (λ b. counted_at b c.args.steps (here g c) c.items.tally ≡ counted_at b c.args.steps (place_at c.turn.new.served (work_of c.turn.new.store) c.turn.new.reader (g.H.Host.now c.turn.new.host)) c.turn.new.tally) same
+
 -- the session ended with this turn
 ends_so : (g : Over) (c : After-turn g)
     → Ended c.items.store.bounds c.args.steps g.H.Host.tells_said (here g c) (place_at c.turn.new.served (work_of c.turn.new.store) c.turn.new.reader (g.H.Host.now c.turn.new.host))
@@ -94,6 +102,8 @@ items-init g c = record {
   total = search rules;
   ended = search rules;
   counted = search rules;
+  countable = omega (arith, ap (λ (t : Count). t.items) c.requires.none_counted);
+  tallied = λ told. starts_counting c.args.store.now.bounds c.args.steps (work_of c.args.store.now) (g.H.Host.now c.args.host.now) c.new-reader.result c.args.tally.now (c.new-reader.ensures ∙ ap fresh c.requires.same_bound) c.requires.none_counted;
   went = λ told. begins _ _ _ (work_of c.args.store.now) c.args.store.now.bounds.input (g.H.Host.now c.args.host.now) c.new-reader.result (c.new-reader.ensures ∙ ap fresh c.requires.same_bound);
   asked = search rules;
   asks_rise = search rules;
@@ -116,6 +126,8 @@ items-preserved g c =
       total = λ told. c.turn.ensures.total told ∙ i.total told;
       ended = λ told. c.in_ok-turn.ensures.ended told;
       counted = search rules;
+      countable = search rules;
+      tallied = λ told. sym (tallied_on g (goal.at.items-preserved g c).After-turn (c.turn.ensures.tallied told (search rules))) ∙ i.tallied told;
       went = λ told. went_all g (goal.at.items-preserved g c).After-turn told (c.turn.ensures.goes_on told (search rules));
       asked = λ told_said told. asks_on g (goal.at.items-preserved g c).After-turn told_said told;
       asks_rise = λ told. rises_on g (goal.at.items-preserved g c).After-turn told;
@@ -136,6 +148,11 @@ pub returns-clause-said : goal.returns-clause-said
 returns-clause-said g c told_said told =
     let at = (goal.at.returns-clause-said g c).After-turn in
     said_all (limit g at) c.args.steps (work_of c.args.store.now) (g.H.Host.now c.args.host.now) g.H.Host.tells_said (here g at) _ (c.items.invariant.went told) (ends_so g at (c.turn.ensures.ends told (search rules))) told_said
+
+pub returns-clause-counted : goal.returns-clause-counted
+returns-clause-counted g c told =
+    let at = (goal.at.returns-clause-counted g c).After-turn in
+    sym (of_bounds g at (λ b. counted_at b c.args.steps (here g at) c.items.tally ≡ c.turn.new.tally) (c.turn.ensures.tallied_whole told (search rules))) ∙ c.items.invariant.tallied told
 
 pub returns-clause-work : goal.returns-clause-work
 returns-clause-work g c told =

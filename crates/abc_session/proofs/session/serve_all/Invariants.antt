@@ -3,11 +3,13 @@ use Rattle.abc_outside.specs.Outside.{IsFaultless}
 use Rattle.abc_outside.specs.Stop.{Leaves, IsQuiet}
 use Rattle.abc_reader.specs.Asking.{Asked, AskedRising, next_ask}
 use Rattle.abc_session.specs.Session.{session_of}
+use Rattle.abc_make.specs.Summary.{counted as counts_of}
+use Rattle.abc_turns.specs.Session.{replies}
 use Rattle.abc_store.specs.Commit.{Holds}
 use Rattle.abc_store.specs.View.{work_of}
 use Rattle.abc_session.specs.Serving.{IsSessionPoint, NoneFell}
 use Rattle.abc_session.specs.Settled.{AsksSettled}
-use Rattle.abc_session.specs.inner.Place.{start_place, place_at, WentOn}
+use Rattle.abc_session.specs.inner.Place.{start_place, place_at, counted_at, WentOn}
 use Rattle.abc_session.proofs.session.serve_all.Given as goal
 
 abbrev pub invariant-items : goal.invariant-items
@@ -25,6 +27,8 @@ invariant-items g l =
       total : g.H.Host.tells_input → l.reader.taken + length now.left ≡ length first.left;
       ended : g.H.Host.tells_input → l.reader.ended ≡ true → now.left ≡ [];
       counted : l.served ≤ l.reader.used;
+      countable : l.tally.items ≤ l.served;
+      tallied : g.H.Host.tells_input → counted_at limit l.steps (place_at l.served (work_of l.store) l.reader now) l.tally ≡ counts_of (replies (session_of limit l.steps work first.left));
       went : g.H.Host.tells_input → WentOn limit l.steps g.H.Host.tells_said (start_place work limit.input first) (place_at l.served (work_of l.store) l.reader now);
       asked : g.H.Host.tells_said → g.H.Host.tells_input → Asked (AsksSettled limit l.steps work first.left (length first.said)) first.asked now.asked;
       asks_rise : g.H.Host.tells_said → AskedRising 0 (next_ask l.reader.taken l.reader.ended) first.asked now.asked;

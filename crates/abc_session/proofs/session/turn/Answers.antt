@@ -1,8 +1,9 @@
-use Rattle.std.proofs.Common.{rules, ◌≡◌, ◌+◌, suc, List, ℕ, Bool, true, false, Some, refl, sym, subst, arith, inl, inr}
+use Rattle.std.proofs.Common.{rules, ◌≡◌, ◌+◌, suc, List, ℕ, Bool, true, false, Some, refl, sym, ap, subst, arith, inl, inr}
 use Rattle.std.specs.Prelude.{◌⊎◌, not, Result, Ok, IsErrOf}
 use Rattle.std.proofs.lemmas.Bool.{false_from_ne_true}
 use Rattle.abc_outside.specs.Stop.{Leaves, IsQuiet, Extends}
-use Rattle.abc_turns.specs.Session.{whole_item}
+use Rattle.abc_make.specs.Summary.{counted_from}
+use Rattle.abc_turns.specs.Session.{whole_item, replies}
 use Rattle.abc_reader.specs.Asking.{Asked, AskedRising, next_ask}
 use Rattle.abc_reader.specs.Items.{next_item}
 use Rattle.abc_reader.specs.Reading.{TookItem}
@@ -15,7 +16,7 @@ use Rattle.abc_session.specs.declared.session.SessionStop.{SessionStop}
 use Rattle.abc_session.specs.declared.session.SessionStop.TheVariants as session
 use Rattle.abc_session.proofs.Stops.{stopped_by, stopped_either, stopped_three}
 use Rattle.abc_session.proofs.Turns.{reading_stops, item_stops, item_broken, item_cut}
-use Rattle.abc_session.proofs.Places.{first_item, past_item, past_quit, past_end, wants_item, wants_line, asks_item, asks_inside}
+use Rattle.abc_session.proofs.Places.{first_item, past_item, past_quit, past_end, none_left, counts_on, counts_last, wants_item, wants_line, asks_item, asks_inside}
 use Rattle.abc_session.proofs.Broken.{quiet_opens}
 use Rattle.abc_session.proofs.session.turn.Given.{Over}
 use Rattle.abc_session.proofs.session.turn.Goals.{After-next_item, After-serve_item}
@@ -144,13 +145,31 @@ pub returns-in-Ok-clause-goes_on : goal.returns-in-Ok-clause-goes_on
 returns-in-Ok-clause-goes_on g c told is =
     let at = (goal.at.returns-in-Ok-clause-goes_on g c).After-serve_item in
     past_item c.args.store.now.bounds c.args.steps g.H.Host.tells_said (old g at) (mid g at) (new g at) c.in-Ok-Some.item (taken g at told) (next_number c.args.served.now) refl c.next_item.ensures.reads_on.rest.said
-    c.in-Ok.done.quit (c.in-Ok.ensures.served told) c.serve_item.ensures.reads.stays_ended refl (off c.in-Ok.done.quit is)
+    c.args.tally.now c.serve_item.new.tally c.in-Ok.done.quit (c.in-Ok.ensures.served told) c.serve_item.ensures.reads.stays_ended refl (off c.in-Ok.done.quit is)
 
 pub returns-in-Ok-clause-ends : goal.returns-in-Ok-clause-ends
 returns-in-Ok-clause-ends g c told is =
     let at = (goal.at.returns-in-Ok-clause-ends g c).After-serve_item in
     past_quit c.args.store.now.bounds c.args.steps g.H.Host.tells_said (old g at) (mid g at) (new g at) c.in-Ok-Some.item (taken g at told) (next_number c.args.served.now) refl c.next_item.ensures.reads_on.rest.said
-    c.in-Ok.done.quit (c.in-Ok.ensures.served told) c.serve_item.ensures.reads.stays_ended (on c.in-Ok.done.quit is)
+    c.args.tally.now c.serve_item.new.tally c.in-Ok.done.quit (c.in-Ok.ensures.served told) c.serve_item.ensures.reads.stays_ended (on c.in-Ok.done.quit is)
+
+pub returns-in-Ok-None-clause-tallied_whole : goal.returns-in-Ok-None-clause-tallied_whole
+returns-in-Ok-None-clause-tallied_whole g c told _ =
+    ap (λ s. counted_from c.args.tally.now (replies s))
+    (none_left c.args.store.now.bounds c.args.steps (place_at c.args.served.now (work_of c.args.store.now) c.args.reader.now (g.H.Host.now c.args.host.now))
+    (place_at c.args.served.now (work_of c.args.store.now) c.next_item.new.self (g.H.Host.now c.next_item.new.host)) ((rw c.in-Ok-None.field-0-is at c.in-Ok-None.ensures.item) told))
+
+pub returns-in-Ok-clause-tallied : goal.returns-in-Ok-clause-tallied
+returns-in-Ok-clause-tallied g c told is =
+    let at = (goal.at.returns-in-Ok-clause-tallied g c).After-serve_item in
+    counts_on c.args.store.now.bounds c.args.steps g.H.Host.tells_said (old g at) (mid g at) (new g at) c.in-Ok-Some.item (taken g at told) (next_number c.args.served.now) refl c.next_item.ensures.reads_on.rest.said
+    c.args.tally.now c.serve_item.new.tally c.in-Ok.done.quit (c.in-Ok.ensures.served told) c.serve_item.ensures.reads.stays_ended refl (off c.in-Ok.done.quit is)
+
+pub returns-in-Ok-clause-tallied_whole : goal.returns-in-Ok-clause-tallied_whole
+returns-in-Ok-clause-tallied_whole g c told is =
+    let at = (goal.at.returns-in-Ok-clause-tallied_whole g c).After-serve_item in
+    counts_last c.args.store.now.bounds c.args.steps g.H.Host.tells_said (old g at) (mid g at) (new g at) c.in-Ok-Some.item (taken g at told) (next_number c.args.served.now) refl c.next_item.ensures.reads_on.rest.said
+    c.args.tally.now c.serve_item.new.tally c.in-Ok.done.quit (c.in-Ok.ensures.served told) c.serve_item.ensures.reads.stays_ended (on c.in-Ok.done.quit is)
 
 pub returns-in-Err-clause-wants : goal.returns-in-Err-clause-wants
 returns-in-Err-clause-wants g c told stops =

@@ -1,0 +1,3 @@
+-- Lemmas.
+mod Reached
+mod Premises

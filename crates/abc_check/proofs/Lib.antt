@@ -1,0 +1,22 @@
+-- Lemmas on the type check.
+pub mod Accepting
+pub mod Alike
+pub mod Beginning
+pub mod Demanding
+pub mod Fewer
+pub mod Finding
+pub mod Grouping
+pub mod Halving
+pub mod Holding
+pub mod Instances
+pub mod KindVars
+pub mod Knowing
+pub mod Linewise
+pub mod Membering
+pub mod Nodes
+pub mod Offering
+pub mod OwnValues
+pub mod PartVars
+pub mod Putting
+pub mod Somes
+pub mod Taking

@@ -1,0 +1,5 @@
+use Rattle.abc_check.proofs.Nodes.{nodes_called}
+use Rattle.abc_check.proofs.laws.nodes_are_called.Goals as goal
+
+pub returns : goal.returns
+returns c = nodes_called

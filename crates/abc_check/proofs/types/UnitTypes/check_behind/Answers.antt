@@ -1,0 +1,18 @@
+use Rattle.std.proofs.Common.{◌≡◌, ◌∙◌, ap}
+use Rattle.std.specs.Prelude.{Err}
+use Rattle.abc_unify.specs.declared.graph.UnifyFault.{UnifyFault}
+use Rattle.abc_check.specs.declared.fault.CheckFault.TheVariants as fault
+use Rattle.abc_check.proofs.Linewise.{no_command_fits}
+use Rattle.abc_check.proofs.types.UnitTypes.check_behind.Goals as goal
+
+pub returns-in-Ok-check_held-clause-ok : goal.returns-in-Ok-check_held-clause-ok
+returns-in-Ok-check_held-clause-ok c = λ w knows spelled n le. c.in-Ok-check_held.ensures.ok c.args.targets.now w (record { units = knows.units; asked = c.in-Ok.ensures.ok w knows.asked }) spelled n le
+
+pub returns-in-Err-check_held-clause-fault : goal.returns-in-Err-check_held-clause-fault
+returns-in-Err-check_held-clause-fault c = λ line e w knows spelled. c.check_held.ensures.fault line (c.in-Err-check_held.is ∙ e) c.args.targets.now w (record { units = knows.units; asked = c.in-Ok.ensures.ok w knows.asked }) spelled
+
+pub returns-in-Err-clause-fault : goal.returns-in-Err-clause-fault
+returns-in-Err-clause-fault c = λ line e w knows spelled.
+    let f : c.at_line_one.result ≡ fault.TypeFault line = cc in
+    let both = c.at_line_one.ensures line f in
+    no_command_fits c.args.targets.now w c.args.command.now line (λ typable. c.hold_values.ensures.clash (c.in-Err.is ∙ ap (λ (x : UnifyFault). Err x) both.1) w knows.asked typable) both.0

@@ -1,0 +1,5 @@
+-- What the code keeps on the way.
+pub mod Asked
+pub mod Groupwise
+pub mod Halves
+pub mod Shaped

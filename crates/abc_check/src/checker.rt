@@ -1,0 +1,124 @@
+//! The checker of a workspace.
+ghost use Rattle.std.specs.Prelude.{◌≡◌, ◌≤◌, ◌↔◌, ℕ, List, length, IsTrue, Err, IfOk, OnOk};
+ghost use Rattle.abc_groups.specs.Program.{LAST_LINE};
+ghost use Rattle.abc_tree.specs.Ordered.{RiseBy};
+ghost use Rattle.abc_ground.specs.Groups.{Cut, whole, with_cut, template_of};
+ghost use Rattle.abc_ground.specs.Typable.{IsTypable, IsTypableWith, IsTypeLine};
+ghost use Rattle.abc_principal.specs.Exact.{cuts_of};
+ghost use Rattle.abc_check.specs.Cuts.{CutsAreSpelled, AllAreSpelled};
+ghost use Rattle.abc_check.specs.Standing.{CallsAreSpelled, StandsFor, IsMade};
+
+use crate::fault::{CheckFault, no_types};
+use crate::members::{cut_members, line_count, whole_members};
+use crate::types::UnitTypes;
+use abc_frames::Targets;
+use abc_num::OutOfMemory;
+use abc_principal::Member;
+use abc_tree::{Command, Unit, Units};
+use abc_unify::UnifyFault;
+use std::alloc::Global;
+
+/// The checker of a workspace: what is known of its units. The values of targets come with each check, so nothing is to be kept
+/// up to date when they change. A check costs what the values of all targets and what is checked cost, but no walk over the units.
+#[derive(Drop)]
+pub enum Checker {
+    Typable(UnitTypes),
+    /// Nothing is typable with these units, whatever the values of targets are.
+    Untypable,
+}
+
+/// The checker of these units.
+fn checker_of(alloc: Global, members: &[Member<'_>]) -> Result<Checker, OutOfMemory>
+    requires { RiseBy template_of (cuts_of members.now) }
+    ensures stands { IfOk result (λ checker. CutsAreSpelled (cuts_of members.now) → StandsFor checker (cuts_of members.now)) }
+    ensures made { IfOk result IsMade }
+{
+    match UnitTypes::over(alloc, members) {
+        Ok(types) => Ok(Checker::Typable(types)),
+        Err(UnifyFault::Clash) => Ok(Checker::Untypable),
+        Err(UnifyFault::Memory) => Err(OutOfMemory),
+    }
+}
+
+impl Checker {
+    /// The checker of these units, whether they are typable or not.
+    pub fn over(alloc: Global, units: &Units) -> Result<Checker, OutOfMemory>
+        ensures stands { IfOk result (λ checker. CutsAreSpelled (whole units.now) → StandsFor checker (whole units.now)) }
+        ensures made { IfOk result IsMade }
+    {
+        let members = whole_members(alloc, units)?;
+        checker_of(alloc, &members)
+    }
+
+    /// Accepts a command exactly where the workspace is typable with all of it and these values of targets, and else tells the
+    /// line at fault: the first one up to which no types fit. It keeps all that is known.
+    pub fn check_command(&mut self, targets: &Targets, command: &Command) -> Result<(), CheckFault>
+        requires { IsMade self.old }
+        ensures ok { OnOk result ((w : List Cut) → StandsFor self.old w → CallsAreSpelled w command.now → (n : ℕ) → n ≤ LAST_LINE → IsTypableWith targets.now w command.now n) }
+        ensures fault { (line : ℕ) → result ≡ Err (CheckFault.TypeFault line) → (w : List Cut) → StandsFor self.old w → CallsAreSpelled w command.now → IsTypeLine (λ n. IsTypableWith targets.now w command.now n) line × (IsTypableWith targets.now w command.now LAST_LINE → ⊥) }
+        ensures kept { self.new ≡ self.old }
+    {
+        match self {
+            Checker::Typable(types) => types.check(targets, command),
+            Checker::Untypable => Err(CheckFault::TypeFault { line: 1 }),
+        }
+    }
+
+    /// Accepts a unit, in the place of the one with its template, exactly where the workspace is typable with all of it and these
+    /// values of targets. Else it tells the line at fault: the first one such that nothing is typable with the unit cut after it.
+    pub fn check_unit(
+        alloc: Global,
+        targets: &Targets,
+        units: &Units,
+        unit: &Unit,
+    ) -> Result<(), CheckFault>
+        ensures ok { OnOk result (CutsAreSpelled (with_cut unit.now (length unit.now.lines) units.now) → IsTypable targets.now (with_cut unit.now (length unit.now.lines) units.now)) }
+        ensures fault { (line : ℕ) → result ≡ Err (CheckFault.TypeFault line) → AllAreSpelled unit.now units.now → 1 ≤ length unit.now.lines → IsTypeLine (λ n. IsTypable targets.now (with_cut unit.now n units.now)) line × (IsTypable targets.now (with_cut unit.now (length unit.now.lines) units.now) → ⊥) }
+    {
+        let Ok(lines) = line_count(unit) else {
+            return Err(CheckFault::Memory);
+        };
+        match fits_upto(alloc, targets, units, unit, lines) {
+            Ok(true) => Ok(()),
+            Ok(false) => Err(unit_fault(alloc, targets, units, unit, lines)),
+            Err(_) => Err(CheckFault::Memory),
+        }
+    }
+}
+
+/// Whether the workspace is typable with these values of targets and this unit in its place, of which `lines` lines count.
+fn fits_upto(
+    alloc: Global,
+    targets: &Targets,
+    units: &Units,
+    unit: &Unit,
+    lines: u32,
+) -> Result<bool, OutOfMemory>
+    ensures { IfOk result (λ yes. CutsAreSpelled (with_cut unit.now lines units.now) → (IsTrue yes ↔ IsTypable targets.now (with_cut unit.now lines units.now))) }
+{
+    let members = cut_members(alloc, units, unit, lines)?;
+    match UnitTypes::over(alloc, &members) {
+        Ok(mut types) => types.fits(targets),
+        Err(fault) => no_types(fault),
+    }
+}
+
+/// The fault of a unit that is not accepted, line by line.
+fn unit_fault(
+    alloc: Global,
+    targets: &Targets,
+    units: &Units,
+    unit: &Unit,
+    lines: u32,
+) -> CheckFault
+    ensures { (line : ℕ) → result ≡ CheckFault.TypeFault line → AllAreSpelled unit.now units.now → 1 ≤ lines → (IsTypable targets.now (with_cut unit.now lines units.now) → ⊥) → IsTypeLine (λ n. IsTypable targets.now (with_cut unit.now n units.now)) line }
+{
+    for line in 1..lines {
+        match fits_upto(alloc, targets, units, unit, line) {
+            Ok(true) => {}
+            Ok(false) => return CheckFault::TypeFault { line },
+            Err(_) => return CheckFault::Memory,
+        }
+    }
+    CheckFault::TypeFault { line: lines }
+}

@@ -1,0 +1,4 @@
+-- Principal signatures of units.
+pub mod Exact
+pub mod Principals
+pub mod inner

@@ -1,0 +1,3 @@
+-- What the code keeps on the way.
+pub mod Grouped
+pub mod Naming
