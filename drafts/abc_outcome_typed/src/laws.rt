@@ -1,0 +1,37 @@
+//! What holds of what comes of items.
+ghost use Rattle.abc_outcome.specs.Laws.{AnExactCheckIsThere, CameStays, ComesAtEnd, LeavesNoMore, NoReplyIsEmpty, RefusalsChangeNothing, LeastIsMissing, NoneIsLeft, TypeLinesAreOne};
+
+use abc_store::laws::units_are_set;
+
+/// What an item comes to over some lines stays so whatever lines follow; it leaves no more lines than there were; and none is wanted at
+/// the end of the input.
+pub fn outcomes_are_steady()
+    ensures came_stays { CameStays }
+    ensures no_longer { LeavesNoMore }
+    ensures came_at_end { ComesAtEnd }
+{}
+
+/// No reply is empty.
+pub fn no_reply_is_empty()
+    ensures { NoReplyIsEmpty }
+{}
+
+/// An item that is not accepted changes nothing, and doesn't quit.
+pub fn refusals_change_nothing()
+    ensures { RefusalsChangeNothing }
+{}
+
+/// The missing unit that is told is the least one that is reached; where none is told, none is missing.
+pub fn missing_is_least()
+    ensures some { LeastIsMissing }
+    ensures none { NoneIsLeft }
+{}
+
+/// Whatever is told as the type line of an item, it comes to the same; and where each item is taken or not taken up to each line, there
+/// is a check that tells exactly the type lines.
+pub fn type_lines_are_one()
+    ensures one { TypeLinesAreOne }
+    ensures there { AnExactCheckIsThere }
+{
+    units_are_set();
+}

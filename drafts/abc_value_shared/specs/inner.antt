@@ -1,0 +1,3 @@
+-- Steps of the code, in words that no public clause uses.
+pub mod Heights
+pub mod Printing
