@@ -1,9 +1,0 @@
-mod Saying
-mod Stops
-mod Broken
-mod Items
-mod Served
-mod Places
-mod Turns
-mod Runs
-mod Summing
