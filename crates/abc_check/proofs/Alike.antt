@@ -13,7 +13,7 @@ use Rattle.abc_ground.specs.Items.{UnitFits}
 use Rattle.abc_ground.specs.Seen.{unit_upto}
 use Rattle.abc_ground.specs.Typable.{IsUsed, FitsAt, MayWithin, May}
 use Rattle.abc_ground.proofs.Listing.{units_listed}
-use Rattle.abc_check.proofs.Finding.{cut_same}
+use Rattle.abc_fewer.proofs.Ways.{cut_same}
 use Rattle.abc_check.proofs.Offering.{allowed_weaker}
 
 -- a unit that fits at what is allowed fits at what is weaker

@@ -18,7 +18,7 @@ use Rattle.abc_check.specs.declared.types.UnitTypes.{UnitTypes}
 use Rattle.abc_check.specs.Standing.{KnowsUnits, AreAsked, KnowsTypes}
 use Rattle.abc_check.specs.inner.Asked.{HaveSome, SomeAsked}
 use Rattle.abc_check.proofs.Alike.{may_alike}
-use Rattle.abc_check.proofs.Finding.{cut_found}
+use Rattle.abc_fewer.proofs.Ways.{cut_found}
 
 module _ (w : List Cut) where
   -- each unit that is found is among the units

@@ -6,7 +6,6 @@ use Rattle.std.specs.declared.cmp.Ordering.{Ordering}
 use Rattle.std.specs.declared.cmp.Ordering.TheVariants.{Less, Equal, Greater}
 use Rattle.std.specs.Ordering.{match_ordering, ordering_reverse}
 use Rattle.std.specs.Cmp.Lexicographic.{nat_list_cmp_total}
-use Rattle.abc_num.specs.Text.{text_cmp}
 use Rattle.abc_num.proofs.Parts.{each_weaker}
 use Rattle.abc_tree.specs.Calls.{called_upto}
 use Rattle.abc_tree.specs.Ordered.{RiseBy}
@@ -14,44 +13,10 @@ use Rattle.abc_tree.specs.Templates.{template_cmp, template_text}
 use Rattle.abc_tree.specs.declared.templates.Template.{Template}
 use Rattle.abc_groups.specs.Program.{EachOnce, entry_texts, program_of, texts, if_any, called}
 use Rattle.abc_groups.specs.Reach as reach
-use Rattle.abc_groups.proofs.Texts.{apart, itself, eq_no, eq_yes, one_text, contains_map, map_contains}
+use Rattle.abc_groups.proofs.Texts.{apart, eq_no, eq_yes, one_text, contains_map, map_contains}
 use Rattle.abc_ground.specs.Groups.{Cut, cut_of, template_of, Way, AreTogether}
 use Rattle.abc_ground.specs.Groups as cuts
 use Rattle.abc_check.specs.Cuts.{entries_in}
-
--- templates that are written alike find the same
-pub cut_same : (xs : List Cut) (a b : Template) → template_text a ≡ template_text b → cut_of a xs ≡ cut_of b xs
-cut_same [] a b e = refl
-cut_same (x ∷ xs) a b e =
-    ap (λ s. match_ordering (text_cmp (template_text (template_of x)) s) (cut_of a xs) (Some x) None) e
-    ∙ ap (λ (o : Option Cut). match_ordering (template_cmp (template_of x) b) o (Some x) None) (cut_same xs a b e)
-
-pub cut_found : (xs : List Cut) (t : Template) (c : Cut) → cut_of t xs ≡ Some c → Contains xs c × (template_text t ≡ template_text (template_of c))
-cut_found [] t c e = absurd (cc)
-cut_found (x ∷ xs) t c e = by_order (template_cmp (template_of x) t) refl (cut_found xs t c) e
-  where
-    by_order : (o : Ordering) → template_cmp (template_of x) t ≡ o → (cut_of t xs ≡ Some c → Contains xs c × (template_text t ≡ template_text (template_of c))) → match_ordering o (cut_of t xs) (Some x) None ≡ Some c → Contains (x ∷ xs) c × (template_text t ≡ template_text (template_of c))
-    by_order Less is rest f =
-        let r : Contains xs c × (template_text t ≡ template_text (template_of c)) = rest f in
-        ((suc r.0.0, omega (arith, r.0.1), r.0.2), r.1)
-    by_order Equal is rest f =
-        let g : x ≡ c = cc in
-        ((zero, omega arith, g), sym (one_text (template_text (template_of x)) (template_text t) is) ∙ ap (λ (y : Cut). template_text (template_of y)) g)
-    by_order Greater is rest f = absurd (cc)
-
-each_at : {X : Type 0} (P : X → Type 0) (xs : List X) (x : X) → AllByRecursion P xs → Contains xs x → P x
-each_at P [] x each (i, lt, e) = absurd (omega (arith, lt))
-each_at P (y ∷ xs) x each (zero, lt, e) = subst P e each.0
-each_at P (y ∷ xs) x each (suc i, lt, e) = each_at P xs x each.1 (i, omega (arith, lt), e)
-
--- a unit is found by its own template
-pub found_own : (w : List Cut) (c : Cut) → RiseBy template_of w → Contains w c → cut_of (template_of c) w ≡ Some c
-found_own [] c rising (i, lt, e) = absurd (omega (arith, lt))
-found_own (x ∷ w) c rising (zero, lt, e) =
-    subst (λ (y : Cut). cut_of (template_of y) (x ∷ w) ≡ Some y) e (ap (λ o. match_ordering o (cut_of (template_of x) w) (Some x) None) (itself (template_text (template_of x))))
-found_own (x ∷ w) c rising (suc i, lt, e) =
-    let less : template_cmp (template_of x) (template_of c) ≡ Less = each_at (λ y. template_cmp (template_of x) (template_of y) ≡ Less) w c rising.0 (i, omega (arith, lt), e) in
-    ap (λ o. match_ordering o (cut_of (template_of c) w) (Some x) None) less ∙ found_own w c rising.1 (i, omega (arith, lt), e)
 
 -- ---- what the graph of the units tells
 

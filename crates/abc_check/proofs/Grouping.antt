@@ -19,7 +19,8 @@ use Rattle.abc_principal.specs.Exact.{Known, known_of, IsPrincipal, IsGroup, Kno
 use Rattle.abc_check.proofs.Somes.{not_some}
 use Rattle.abc_check.specs.Cuts.{entries_in, CutsAreSpelled, NodesAreCalled}
 use Rattle.abc_check.specs.inner.Groupwise.{IsKnown, KnowsGroups, AreFound}
-use Rattle.abc_check.proofs.Finding.{cut_same, cut_found, program, called_is, program_there, together_to, together_from}
+use Rattle.abc_fewer.proofs.Ways.{cut_same, cut_found}
+use Rattle.abc_check.proofs.Finding.{program, called_is, program_there, together_to, together_from}
 
 -- ---- the units of some templates
 

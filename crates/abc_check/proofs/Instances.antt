@@ -23,7 +23,7 @@ use Rattle.abc_principal.specs.declared.member.Member.{Member}
 use Rattle.abc_principal.specs.Exact.{Known, known_of, cut_in, cuts_of, AreProper, IsPrincipal}
 use Rattle.abc_principal.specs.inner.Grouped.{AllProper}
 use Rattle.abc_check.specs.Standing.{KnowsUnits}
-use Rattle.abc_check.proofs.Finding.{found_own}
+use Rattle.abc_fewer.proofs.Cuts.{found_own}
 use Rattle.abc_check.proofs.Taking.{next_taken}
 use Rattle.abc_principal.proofs.Finding.{agree_fewer}
 use Rattle.abc_check.specs.inner.Asked.{HaveSome, SomeAsked}

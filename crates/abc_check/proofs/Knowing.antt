@@ -19,7 +19,8 @@ use Rattle.abc_check.proofs.Somes.{is_there}
 use Rattle.abc_check.specs.Cuts.{entries_in, CutsAreSpelled, NodesAreCalled}
 use Rattle.abc_check.specs.Standing.{KnowsUnits}
 use Rattle.abc_check.specs.inner.Groupwise.{IsKnown, KnowsGroups, AreFound, ArePut}
-use Rattle.abc_check.proofs.Finding.{cut_same, cut_found, program_there, cut_there}
+use Rattle.abc_fewer.proofs.Ways.{cut_same, cut_found}
+use Rattle.abc_check.proofs.Finding.{program_there, cut_there}
 use Rattle.abc_check.proofs.Grouping.{in_group, from_group, is_group, knows_calls, found_member}
 use Rattle.abc_check.proofs.Putting.{knows_next}
 

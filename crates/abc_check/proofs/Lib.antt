@@ -3,7 +3,6 @@ pub mod Accepting
 pub mod Alike
 pub mod Beginning
 pub mod Demanding
-pub mod Fewer
 pub mod Finding
 pub mod Grouping
 pub mod Halving
@@ -13,7 +12,6 @@ pub mod KindVars
 pub mod Knowing
 pub mod Linewise
 pub mod Membering
-pub mod Nodes
 pub mod Offering
 pub mod OwnValues
 pub mod PartVars

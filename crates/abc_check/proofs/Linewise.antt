@@ -1,9 +1,8 @@
--- The type line of a unit is found line by line.
-use Rattle.std.proofs.Common.{◌≡◌, ◌∙◌, ◌↔◌, ℕ, ◌+◌, ◌<◌, ◌≤◌, ◌⊎◌, inl, inr, Bool, true, false, List, [], sym, subst, arith}
+-- What a check of values tells of a workspace, and the line at fault where nothing is typable.
+use Rattle.std.proofs.Common.{◌≡◌, ◌∙◌, ◌↔◌, ℕ, Bool, true, false, List, [], sym, subst, arith}
 use Rattle.std.specs.Prelude.{IsTrue, Ok, Err, IfOk}
 use Rattle.std.specs.declared.result.Result.{Result}
 use Rattle.std.proofs.lemmas.List.Elements.{All-nil}
-use Rattle.std.proofs.lemmas.Bool.{cases_lt}
 use Rattle.abc_unify.specs.declared.graph.UnifyFault.{UnifyFault}
 use Rattle.abc_unify.specs.declared.graph.UnifyFault.TheVariants as fault
 use Rattle.abc_tree.specs.declared.commands.Command.{Command}
@@ -14,26 +13,9 @@ use Rattle.abc_check.specs.declared.types.UnitTypes.{UnitTypes}
 use Rattle.abc_check.specs.Cuts.{CutsAreSpelled}
 use Rattle.abc_check.specs.Standing.{KnowsTypes}
 
--- it is typable up to each line before this one
-abbrev pub IsUpto : (ℕ → Type 0) → ℕ → Type 0
-IsUpto typable n = (m : ℕ) → 1 ≤ m → m < n → typable m
-
-pub none_before : (typable : ℕ → Type 0) → IsUpto typable 1
-none_before typable m one less = absurd (omega (arith, one, less))
-
-pub one_more : (typable : ℕ → Type 0) (n : ℕ) → IsUpto typable n → typable n → IsUpto typable (n + 1)
-one_more typable n upto here m one less = by_place (cases_lt m n)
-  where
-    by_place : (m < n) ⊎ (n ≤ m) → typable m
-    by_place (inl low) = upto m one low
-    by_place (inr high) = let e : n ≡ m = omega (arith, less, high) in subst typable e here
-
-pub first_refused : (typable : ℕ → Type 0) (n : ℕ) → 1 ≤ n → IsUpto typable n → (typable n → ⊥) → IsTypeLine typable n
-first_refused typable n from upto refused = record { from = from; refused = refused; before = upto }
-
 -- where nothing is typable the first line is at fault
-pub line_one : (typable : ℕ → Type 0) → (typable 1 → ⊥) → IsTypeLine typable 1
-line_one typable refused = record { from = omega arith; refused = refused; before = none_before typable }
+line_one : (typable : ℕ → Type 0) → (typable 1 → ⊥) → IsTypeLine typable 1
+line_one typable refused = record { from = omega arith; refused = refused; before = λ m one less. absurd (omega (arith, one, less)) }
 
 -- a command too, where the workspace is not typable without it
 pub no_command_fits : (values : Values) (w : List Cut) (c : Command) (line : ℕ) → (IsTypable values w → ⊥) → line ≡ 1 → IsTypeLine (λ n. IsTypableWith values w c n) line × (IsTypableWith values w c LAST_LINE → ⊥)

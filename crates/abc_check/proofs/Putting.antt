@@ -1,10 +1,8 @@
 -- What is known when the principals of a group are put to the others.
-use Rattle.std.proofs.Common.{◌≡◌, ◌∙◌, ◌<◌, ◌≤◌, ◌+◌, ◌⊎◌, inl, inr, ℕ, zero, suc, Bool, true, false, List, [], ◌∷◌, ap, sym, subst, refl, arith}
+use Rattle.std.proofs.Common.{◌≡◌, ◌∙◌, ◌<◌, ◌≤◌, ◌+◌, ◌⊎◌, inl, inr, ℕ, zero, suc, List, [], ◌∷◌, ap, sym, subst, refl, arith}
 use Rattle.std.specs.Prelude.{None, Some}
 use Rattle.std.specs.List.{Contains}
 use Rattle.std.proofs.lemmas.Bool.{cases_lt}
-use Rattle.abc_num.specs.Text.{text_eq}
-use Rattle.abc_num.proofs.Texts.{text_eq-Decides}
 use Rattle.abc_tree.specs.Templates.{template_text}
 use Rattle.abc_tree.specs.declared.templates.Template.{Template}
 use Rattle.abc_groups.specs.Groups.{group_at}
@@ -12,15 +10,8 @@ use Rattle.abc_ground.specs.Groups.{Cut, cut_of, template_of}
 use Rattle.abc_principal.specs.declared.principal.Principal.{Principal}
 use Rattle.abc_principal.specs.Exact.{Known, known_of, ArePrincipals}
 use Rattle.abc_check.specs.inner.Groupwise.{IsKnown, KnowsGroups, ArePut}
-use Rattle.abc_check.proofs.Finding.{cut_same}
-
--- two texts are one, or not
-same_or : (s t : List ℕ) → (s ≡ t) ⊎ (s ≡ t → ⊥)
-same_or s t = by_test (text_eq s t) refl
-  where
-    by_test : (b : Bool) → text_eq s t ≡ b → (s ≡ t) ⊎ (s ≡ t → ⊥)
-    by_test true is = inl ((text_eq-Decides s t).0 is)
-    by_test false is = inr (λ e. let f : true ≡ false = sym ((text_eq-Decides s t).1 e) ∙ is in cc)
+use Rattle.abc_fewer.proofs.Among.{same_or}
+use Rattle.abc_fewer.proofs.Ways.{cut_same}
 
 module _ (w : List Cut) where
   abbrev AreThere : List Cut → Type 0

@@ -7,6 +7,7 @@ ghost use Rattle.abc_ground.specs.Typable.{IsTypable, IsTypableWith, IsTypeLine}
 ghost use Rattle.abc_principal.specs.Exact.{cuts_of};
 ghost use Rattle.abc_check.specs.Cuts.{CutsAreSpelled, AllAreSpelled};
 ghost use Rattle.abc_check.specs.Standing.{CallsAreSpelled, StandsFor, IsMade};
+ghost use Rattle.abc_check.specs.inner.Halves.{IsUnitBetween};
 
 use crate::fault::{CheckFault, no_types};
 use crate::members::{cut_members, line_count, whole_members};
@@ -48,6 +49,18 @@ impl Checker {
     {
         let members = whole_members(alloc, units)?;
         checker_of(alloc, &members)
+    }
+
+    /// Whether the workspace is typable with these values of targets. It keeps all that is known.
+    pub fn fits(&mut self, targets: &Targets) -> Result<bool, OutOfMemory>
+        requires { IsMade self.old }
+        ensures exact { IfOk result (λ yes. (w : List Cut) → StandsFor self.old w → (IsTrue yes ↔ IsTypable targets.now w)) }
+        ensures kept { self.new ≡ self.old }
+    {
+        match self {
+            Checker::Typable(types) => types.fits(targets),
+            Checker::Untypable => Ok(false),
+        }
     }
 
     /// Accepts a command exactly where the workspace is typable with all of it and these values of targets, and else tells the
@@ -103,7 +116,31 @@ fn fits_upto(
     }
 }
 
-/// The fault of a unit that is not accepted, line by line.
+/// The line at fault of a unit that is not accepted, between one up to which it is and one up to which it isn't. Fewer lines stay
+/// typable, so each test halves what is left.
+fn unit_line_between(
+    alloc: Global,
+    targets: &Targets,
+    units: &Units,
+    unit: &Unit,
+    taken: u32,
+    refused: u32,
+) -> Result<u32, OutOfMemory>
+    requires { taken ≤ refused }
+    ensures { IfOk result (λ line. IsUnitBetween targets.now unit.now units.now taken refused line) }
+{
+    if refused - taken <= 1 {
+        return Ok(refused);
+    }
+    let middle = taken + (refused - taken) / 2;
+    match fits_upto(alloc, targets, units, unit, middle) {
+        Ok(true) => unit_line_between(alloc, targets, units, unit, middle, refused),
+        Ok(false) => unit_line_between(alloc, targets, units, unit, taken, middle),
+        Err(fault) => Err(fault),
+    }
+}
+
+/// The fault of a unit that is not accepted.
 fn unit_fault(
     alloc: Global,
     targets: &Targets,
@@ -113,12 +150,8 @@ fn unit_fault(
 ) -> CheckFault
     ensures { (line : ℕ) → result ≡ CheckFault.TypeFault line → AllAreSpelled unit.now units.now → 1 ≤ lines → (IsTypable targets.now (with_cut unit.now lines units.now) → ⊥) → IsTypeLine (λ n. IsTypable targets.now (with_cut unit.now n units.now)) line }
 {
-    for line in 1..lines {
-        match fits_upto(alloc, targets, units, unit, line) {
-            Ok(true) => {}
-            Ok(false) => return CheckFault::TypeFault { line },
-            Err(_) => return CheckFault::Memory,
-        }
+    match unit_line_between(alloc, targets, units, unit, 0, lines) {
+        Ok(line) => CheckFault::TypeFault { line },
+        Err(_) => CheckFault::Memory,
     }
-    CheckFault::TypeFault { line: lines }
 }

@@ -34,17 +34,18 @@ fn puts_text(alloc: Global, line: u32) -> Result<Command, OutOfMemory> {
     })
 }
 
-/// The unit `SET` of two lines, the second of which puts a text in the target x.
+/// The unit `SET` of seven lines, the fifth of which puts a text in the target x.
 fn sets_text(alloc: Global) -> Result<Unit, OutOfMemory> {
     let mut words = Items::new(alloc);
     words.push(Word::Key(Text::of(alloc, b"SET")?))?;
     let mut body: Suite = Items::new(alloc);
-    body.push(put(2, Expr::Text(Items::new(alloc))))?;
+    body.push(put(5, Expr::Text(Items::new(alloc))))?;
     let mut shared = Items::new(alloc);
     shared.push(NameId(0))?;
     let mut lines = Items::new(alloc);
-    lines.push(line_of(alloc)?)?;
-    lines.push(line_of(alloc)?)?;
+    for _ in 0..7 {
+        lines.push(line_of(alloc)?)?;
+    }
     Ok(Unit {
         template: Template {
             kind: TemplateKind::Command,
@@ -102,12 +103,12 @@ fn command_is_at_fault_on_its_second_line(rt: HostRuntime) -> Result<(), Fail> {
 }
 
 #[test]
-fn unit_is_at_fault_on_its_second_line(rt: HostRuntime) -> Result<(), Fail> {
+fn unit_is_at_fault_on_its_fifth_line(rt: HostRuntime) -> Result<(), Fail> {
     let alloc = rt.alloc();
     let targets = one_target(alloc, Value::empty(alloc))?;
     let units = Units::new(alloc);
     let answer = Checker::check_unit(alloc, &targets, &units, &sets_text(alloc)?);
-    assert!(rt; answer == Err(CheckFault::TypeFault { line: 2 }));
+    assert!(rt; answer == Err(CheckFault::TypeFault { line: 5 }));
     Ok(())
 }
 
@@ -118,8 +119,10 @@ fn units_are_kept_from_other_types(rt: HostRuntime) -> Result<(), Fail> {
     let _old = units.put(sets_text(alloc)?)?;
     let mut checker = Checker::over(alloc, &units)?;
     let none = Targets::new(alloc);
+    assert!(rt; checker.fits(&none)?);
     assert!(rt; checker.check_command(&none, &puts_text(alloc, 1)?).is_ok());
     let targets = one_target(alloc, Value::empty(alloc))?;
+    assert!(rt; !checker.fits(&targets)?);
     let answer = checker.check_command(&targets, &puts_text(alloc, 1)?);
     assert!(rt; answer == Err(CheckFault::TypeFault { line: 1 }));
     Ok(())

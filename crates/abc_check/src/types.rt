@@ -9,7 +9,7 @@ ghost use Rattle.abc_scheme.specs.inner.Copies.{IsLater};
 ghost use Rattle.abc_principal.specs.Exact.{cuts_of};
 ghost use Rattle.abc_check.specs.Cuts.{CutsAreSpelled};
 ghost use Rattle.abc_check.specs.Standing.{CallsAreSpelled, KnowsTypes, AreMade};
-ghost use Rattle.abc_check.specs.inner.Halves.{Tells, IsBetween};
+ghost use Rattle.abc_check.specs.inner.Halves.{Tells, IsCommandBetween};
 
 use crate::asked::{Asked, asked_units};
 use crate::asking::ask;
@@ -165,7 +165,7 @@ impl UnitTypes {
     ) -> Result<u32, OutOfMemory>
         requires made { AreMade self.old }
         requires order { taken < refused }
-        ensures line { IfOk result (λ line. IsBetween self.old command.now taken refused line) }
+        ensures line { IfOk result (λ line. IsCommandBetween self.old command.now taken refused line) }
         ensures kept { self.new ≡ self.old }
     {
         if refused - taken == 1 {

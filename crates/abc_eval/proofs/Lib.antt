@@ -1,3 +1,4 @@
 -- Lemmas on runs.
 pub mod Asking
 pub mod Settling
+mod Examples

@@ -1,20 +1,25 @@
 -- What a run came to, once its targets are settled.
-use Rattle.std.proofs.Common.{◌≡◌, ◌-◌, ℕ, List, Result, Ok, Err, refl, sym, ap, ◌∙◌, subst}
+use Rattle.std.proofs.Common.{◌≡◌, ◌-◌, ◌≤◌, ℕ, List, Result, Ok, Err, refl, sym, ap, ◌∙◌, subst, arith}
+use Rattle.std.specs.Prelude.{IfOk, IfErr, OnErr, IsErrOf}
 use Rattle.abc_num.specs.declared.lines.RawLine.{RawLine}
 use Rattle.abc_frames.specs.Maps.{Targets}
 use Rattle.abc_outside.specs.Lines.{Unread, lines_in}
-use Rattle.abc_meaning.specs.State.{Flow, goes_on, quits, returns, reports, Got, gives, stops}
+use Rattle.abc_meaning.specs.State.{State, Flow, goes_on, quits, returns, reports, Got, gives, stops}
 use Rattle.abc_meaning.specs.Ran.{Ran as Meant, Outcome as MeantOutcome, stopped, ran_as}
 use Rattle.abc_pending.specs.Leads.{as_flow}
-use Rattle.abc_machine.specs.Outcomes.{End, end_of, outcome_of}
+use Rattle.abc_machine.specs.Outcomes.{End, end_of}
+use Rattle.abc_machine.specs.Outcomes as machine
 use Rattle.abc_machine.specs.Machine.{WantsOne}
-use Rattle.abc_machine.specs.declared.outcome.Outcome.{Outcome}
-use Rattle.abc_machine.specs.declared.outcome.Outcome.TheVariants.{Done, Quit, Fault, Wrong}
+use Rattle.abc_machine.specs.declared.outcome.Outcome.{Outcome as Ending}
 use Rattle.abc_machine.specs.declared.outcome.RunStop.{RunStop}
 use Rattle.abc_machine.specs.declared.outcome.RunStop.TheVariants.{Input, Long, Memory}
-use Rattle.abc_eval.specs.Runs.{IsRun, WantsLine, as_meant}
-use Rattle.abc_eval.specs.inner.Coming.{Comes, IsEnd, settled, settled_by}
+use Rattle.abc_eval.specs.Runs.{HasMemory, IsRun, WantsLine, as_meant, outcome_of}
+use Rattle.abc_eval.specs.inner.Coming.{Comes, IsEnd, end_as, settled, settled_by}
+use Rattle.abc_eval.specs.declared.outcome.Outcome.{Outcome}
+use Rattle.abc_eval.specs.declared.outcome.Outcome.TheVariants.{Done, Quit, Fault}
 use Rattle.abc_eval.specs.declared.running.Ran.{Ran}
+use Rattle.abc_ground.specs.Groups.{Cut}
+use Rattle.abc_ground.specs.Typable.{IsTypable}
 
 -- the targets that the meaning has afterwards, by how it ended
 abbrev pub targets_by : MeantOutcome → Targets → Targets → Targets
@@ -25,7 +30,6 @@ same_targets : (o : Outcome) (m : MeantOutcome) (before now : Targets) → m ≡
 same_targets Done m before now e = ap (λ m. targets_by m before now) e
 same_targets Quit m before now e = ap (λ m. targets_by m before now) e
 same_targets (Fault line f) m before now e = ap (λ m. targets_by m before now) e
-same_targets (Wrong line) m before now e = ap (λ m. targets_by m before now) e
 
 -- the run as the meaning has it, by its end
 abbrev pub ran_by : Targets → ℕ → End → Meant
@@ -64,3 +68,51 @@ settles (Err Memory) before now unread budget g h = tt
 pub settled_run : (r : Result Ran RunStop) (before kept now after : Targets) (unread : Unread) (budget : ℕ) (g : Got Flow) → kept ≡ before → after ≡ settled r kept now → Comes r now unread budget g → IsRun r after (lines_in unread) (ran_as before budget g)
 settled_run r before kept now after unread budget g e h k =
     subst (λ t. IsRun r t (lines_in unread) (ran_as before budget g)) (ap (λ t. settled r t now) (sym e) ∙ sym h) (settles r before now unread budget g k)
+
+-- ---- what a machine that has ended leaves
+
+outcome_as : (o : Outcome) (e : Ending) → end_as o ≡ e → machine.outcome_of e ≡ outcome_of o
+outcome_as Done e is = ap machine.outcome_of (sym is)
+outcome_as Quit e is = ap machine.outcome_of (sym is)
+outcome_as (Fault line fault) e is = ap machine.outcome_of (sym is)
+
+memory_as : (o : Outcome) (e : Ending) → end_as o ≡ e → machine.HasMemory e → HasMemory o
+memory_as Done e is has = tt
+memory_as Quit e is has = tt
+memory_as (Fault line fault) e is has = subst machine.HasMemory (sym is) has
+
+module _ (e : Ending) (output : List ℕ) (steps : ℕ) where
+  -- where the run is told it is what the machine came to
+  pub comes : (r : Result Ran RunStop) → IfOk r (λ x. end_as x.outcome ≡ e) → IfOk r (λ x. x.output ≡ output) → IfOk r (λ x. x.steps ≡ steps) → IfErr r (λ stop. stop ≡ Memory)
+      → (targets : Targets) (unread : Unread) (budget : ℕ) (g : Got Flow) (end : State) → machine.EndsSo e end (as_flow g) → end.targets ≡ targets → end.output ≡ output → end.lines ≡ lines_in unread → budget - end.left ≡ steps
+      → Comes r targets unread budget g
+  comes (Ok r) outcome_is output_is steps_are memory targets unread budget g end ends t o l s = record {
+    end = end;
+    ends = ends ∙ ap (λ (m : MeantOutcome). record { outcome = m; state = end }) (outcome_as r.outcome e outcome_is);
+    targets_are = t;
+    output_is = o ∙ sym output_is;
+    lines_are = l;
+    steps_are = s ∙ sym steps_are;
+  }
+  comes (Err Memory) outcome_is output_is steps_are memory targets unread budget g end ends t o l s = tt
+  comes (Err Input) outcome_is output_is steps_are memory targets unread budget g end ends t o l s = tt
+  comes (Err Long) outcome_is output_is steps_are memory targets unread budget g end ends t o l s = absurd (cc)
+
+  pub keeps_memory : (r : Result Ran RunStop) → IfOk r (λ x. end_as x.outcome ≡ e) → machine.HasMemory e → IfOk r (λ x. HasMemory x.outcome)
+  keeps_memory (Ok r) outcome_is has = memory_as r.outcome e outcome_is has
+  keeps_memory (Err stop) outcome_is has = tt
+
+pub keeps_steps : (r : Result Ran RunStop) (steps budget : ℕ) → IfOk r (λ x. x.steps ≡ steps) → steps ≤ budget → IfOk r (λ x. x.steps ≤ budget)
+keeps_steps (Ok r) steps budget is few = omega (arith, is, few)
+keeps_steps (Err stop) steps budget is few = tt
+
+-- its only stop is want of memory
+pub no_stop : (r : Result Ran RunStop) (stop : RunStop) → (stop ≡ Memory → ⊥) → IfErr r (λ s. s ≡ Memory) → IsErrOf r stop → ⊥
+no_stop (Ok r) stop other memory is = cc
+no_stop (Err s) stop other memory is = let same : s ≡ stop = cc in other (sym same ∙ memory)
+
+-- ---- the targets stay typable
+
+pub stays_typable : (r : Result Ran RunStop) (before after : Targets) (lines : List RawLine) (g : Meant) (w : List Cut) → IsRun r after lines g → OnErr r (after ≡ before) → IsTypable before w → IsTypable g.targets w → IsTypable after w
+stays_typable (Ok r) before after lines g w run kept old new = subst (λ (m : Meant). IsTypable m.targets w) run new
+stays_typable (Err stop) before after lines g w run kept old new = subst (λ (ts : Targets). IsTypable ts w) (sym kept) old

@@ -1,14 +1,36 @@
 -- What an answer of run_item says of the meaning of a command.
-use Rattle.std.specs.Prelude.{◌≡◌, ℕ, false, List, [], Result, Ok, Err}
+use Rattle.std.specs.Prelude.{◌≡◌, ◌≢◌, ℕ, false, List, [], Result, Ok, Err}
 use Rattle.abc_num.specs.declared.lines.RawLine.{RawLine}
 use Rattle.abc_frames.specs.Maps.{Targets}
 use Rattle.abc_outside.specs.Lines.{Unread, lines_in}
-use Rattle.abc_meaning.specs.State.{wants}
-use Rattle.abc_meaning.specs.Ran.{Ran as Meant, stopped}
-use Rattle.abc_machine.specs.Outcomes.{outcome_of}
+use Rattle.abc_tree.specs.declared.commands.Command.{Command}
+use Rattle.abc_tree.specs.declared.commands.Unit.{Unit as Routine}
+use Rattle.abc_value.specs.declared.faults.RunFault.TheVariants as fault_of
+use Rattle.abc_meaning.specs.State.{faulty, wants}
+use Rattle.abc_meaning.specs.Ran.{Ran as Meant, Outcome as Meaning, done, quit, stopped}
+use Rattle.abc_ground.specs.Groups.{whole}
+use Rattle.abc_ground.specs.Typable.{IsTypableWith}
+use Rattle.abc_sound.specs.Checked.{IsSessionItem}
 use Rattle.abc_machine.specs.declared.outcome.RunStop.{RunStop}
 use Rattle.abc_machine.specs.declared.outcome.RunStop.TheVariants.{Input, Long, Memory}
+use Rattle.abc_eval.specs.declared.outcome.Outcome.{Outcome}
+use Rattle.abc_eval.specs.declared.outcome.Outcome.TheVariants.{Done, Quit, Fault}
 use Rattle.abc_eval.specs.declared.running.Ran.{Ran}
+
+-- The command is accepted over these targets and units: they are as a store holds them, it reaches no missing unit, and types fit all.
+abbrev pub IsAccepted : List Routine → Targets → Command → Type 0
+IsAccepted units targets c = (n : ℕ) × IsSessionItem units targets c n × IsTypableWith targets (whole units) c n
+
+-- the outcome as the meaning has it, which is never wrong
+abbrev pub outcome_of : Outcome → Meaning
+outcome_of Done = done
+outcome_of Quit = quit
+outcome_of (Fault line fault) = stopped line (faulty fault)
+
+-- no outcome tells of want of memory
+abbrev pub HasMemory : Outcome → Type 0
+HasMemory (Fault line fault) = fault ≢ fault_of.Memory
+HasMemory o = Unit {0}
 
 -- a run, with the targets afterwards and the lines left
 abbrev pub as_meant : Ran → Targets → List RawLine → Meant

@@ -1,20 +1,26 @@
 //! The run of an immediate command, whole or not at all.
-ghost use Rattle.std.specs.Prelude.{◌≡◌, ◌≤◌, ◌+◌, ◌⊎◌, true, IfOk, OnErr, IsErrOf};
+ghost use Rattle.std.specs.Prelude.{◌≡◌, ◌≤◌, ◌+◌, ◌⊎◌, true, IfOk, IfErr, OnErr, IsErrOf};
 ghost use Rattle.abc_num.specs.declared.limits.TheConstants.{MOST_DEPTH};
 ghost use Rattle.abc_outside.specs.Lines.{lines_in, Called, Failed};
 ghost use Rattle.abc_outside.specs.Outside.{RoseByOne};
 ghost use Rattle.abc_meaning.specs.Laws.{wants_line};
 ghost use Rattle.abc_meaning.specs.Meaning.{meaning};
 ghost use Rattle.abc_meaning.specs.Ran.{ran, standing, starting};
-ghost use Rattle.abc_machine.specs.Outcomes.{HasMemory};
-ghost use Rattle.abc_eval.specs.Runs.{IsRun, WantsLine, WantsThere};
+ghost use Rattle.abc_ground.specs.Groups.{whole};
+ghost use Rattle.abc_ground.specs.Typable.{IsTypable};
+ghost use Rattle.abc_sound.specs.Checked.{IsNeverWrong};
+ghost use Rattle.abc_machine.specs.Outcomes.{HasMemory as EndHasMemory};
+ghost use Rattle.abc_eval.specs.Runs.{HasMemory, IsAccepted, IsRun, WantsLine, WantsThere};
 ghost use Rattle.abc_machine.specs.Machine.{IsBusy, IsOf, pending, state_within};
-ghost use Rattle.abc_eval.specs.inner.Coming.{Comes, Ends, settled};
+ghost use Rattle.abc_eval.specs.inner.Coming.{Comes, Ends, end_as, settled};
 
+use crate::Outcome;
 use abc_frames::{Kept, Targets};
-use abc_machine::{Machine, Outcome, RunStop, Stepped};
+use abc_machine::{Machine, Outcome as End, RunStop, Stepped};
+use abc_meaning::values_stay_regular;
 use abc_num::Text;
 use abc_outside::Lines;
+use abc_sound::checked_items_are_never_wrong;
 use abc_tree::{Command, Units};
 use std::alloc::Global;
 
@@ -26,8 +32,9 @@ pub struct Ran {
     pub steps: u64,
 }
 
-/// Runs an immediate command, which may take so many steps. After a fault, after Wrong and after an error the targets are as before;
-/// lines that were taken stay taken. The targets are copied once, before the first step.
+/// Runs an immediate command that was accepted, which may take so many steps. It is never wrong, and the targets stay typable with the
+/// units. After a fault and after an error the targets are as before; lines that were taken stay taken. The targets are copied once,
+/// before the first step.
 #[tactic(auto, using(crate::proofs::Settling::settled_run))]
 pub fn run_item<L: Lines>(
     alloc: Global,
@@ -37,8 +44,11 @@ pub fn run_item<L: Lines>(
     lines: &mut L,
     steps: u64,
 ) -> Result<Ran, RunStop>
+    requires accepted { IsAccepted units.now targets.old c.now }
     ensures may_be { (input : L.Input) → L.may_be input lines.new → L.may_be input lines.old }
     ensures ran { (input : L.Input) → L.may_be input lines.new → IsRun result targets.new (lines_in (L.unread input lines.new)) (ran units.now MOST_DEPTH c.now targets.old (lines_in (L.unread input lines.old)) (L.unread input lines.old).ends steps) }
+    ensures never { (input : L.Input) → IsNeverWrong (ran units.now MOST_DEPTH c.now targets.old (lines_in (L.unread input lines.old)) (L.unread input lines.old).ends steps).outcome }
+    ensures typable { (input : L.Input) → L.may_be input lines.new → IsTypable targets.new (whole units.now) }
     ensures memory { IfOk result (λ r. HasMemory r.outcome) }
     ensures steps { IfOk result (λ r. r.steps ≤ steps) }
     ensures kept { OnErr result (targets.new ≡ targets.old) }
@@ -50,6 +60,8 @@ pub fn run_item<L: Lines>(
     ensures calls { Called L.reads_on (WantsThere L.may_be L.unread (λ input. WantsLine (ran units.now MOST_DEPTH c.now targets.old (lines_in (L.unread input lines.old)) (L.unread input lines.old).ends steps))) lines.old lines.new }
     ensures failed { (IsErrOf result RunStop.Long ⊎ IsErrOf result RunStop.Input) → Failed L.failed (WantsThere L.may_be L.unread (λ input. WantsLine (ran units.now MOST_DEPTH c.now targets.old (lines_in (L.unread input lines.old)) (L.unread input lines.old).ends steps))) lines.new }
 {
+    checked_items_are_never_wrong();
+    values_stay_regular();
     let before = match targets.keep() {
         Ok(kept) => kept,
         Err(_) => return Err(RunStop::Memory),
@@ -85,7 +97,7 @@ fn run<L: Lines>(
         Err(_) => return Err(RunStop::Memory),
     };
     match drive(&mut machine, units, targets, lines, budget) {
-        Ok(outcome) => Ok(ended(machine, outcome)),
+        Ok(end) => ended(machine, end),
         Err(stop) => Err(stop),
     }
 }
@@ -97,13 +109,13 @@ fn drive<'a, L: Lines>(
     targets: &mut Targets,
     lines: &mut L,
     budget: u64,
-) -> Result<Outcome, RunStop>
+) -> Result<End, RunStop>
     requires busy { IsBusy machine.old }
     requires of { IsOf units.now machine.old }
     requires steps { machine.old.steps ≤ budget }
     ensures may_be { (input : L.Input) → L.may_be input lines.new → L.may_be input lines.old }
     ensures ends { (input : L.Input) → L.may_be input lines.new → Ends result (state_within machine.new targets.new (L.unread input lines.new) budget) (pending units.now machine.old (state_within machine.old targets.old (L.unread input lines.old) budget)) }
-    ensures memory { IfOk result HasMemory }
+    ensures memory { IfOk result EndHasMemory }
     ensures steps { machine.new.steps ≤ budget }
     ensures bound { L.bound lines.new ≡ L.bound lines.old }
     ensures taken { L.taken lines.old ≤ L.taken lines.new }
@@ -116,23 +128,39 @@ fn drive<'a, L: Lines>(
     'turn: loop {
         match machine.step(targets, units, lines, budget) {
             Ok(Stepped::More) => {}
-            Ok(Stepped::End(outcome)) => return Ok(outcome),
+            Ok(Stepped::End(end)) => return Ok(end),
             Err(stop) => return Err(stop),
         }
     }
 }
 
-/// What a machine that has ended so leaves.
-fn ended(machine: Machine<'_>, outcome: Outcome) -> Ran
-    ensures outcome { result.outcome ≡ outcome }
-    ensures output { result.output ≡ machine.entry.run.output }
-    ensures steps { result.steps ≡ machine.entry.steps }
+/// What a machine that has ended so leaves. No input leads an accepted command to Wrong. Where the lines tell nothing of their input
+/// nothing is known of the run, so that end is told as want of memory.
+fn ended(machine: Machine<'_>, end: End) -> Result<Ran, RunStop>
+    ensures outcome { IfOk result (λ r. end_as r.outcome ≡ end) }
+    ensures output { IfOk result (λ r. r.output ≡ machine.entry.run.output) }
+    ensures steps { IfOk result (λ r. r.steps ≡ machine.entry.steps) }
+    ensures memory { IfErr result (λ stop. stop ≡ RunStop.Memory) }
 {
     let steps = machine.steps();
-    Ran {
-        outcome,
-        output: machine.into_output(),
-        steps,
+    let output = machine.into_output();
+    match end {
+        End::Done => Ok(Ran {
+            outcome: Outcome::Done,
+            output,
+            steps,
+        }),
+        End::Quit => Ok(Ran {
+            outcome: Outcome::Quit,
+            output,
+            steps,
+        }),
+        End::Fault { line, fault } => Ok(Ran {
+            outcome: Outcome::Fault { line, fault },
+            output,
+            steps,
+        }),
+        End::Wrong { line: _ } => Err(RunStop::Memory),
     }
 }
 
@@ -145,7 +173,6 @@ fn settle(targets: &mut Targets, before: Kept, answer: &Result<Ran, RunStop>)
             Outcome::Done => {}
             Outcome::Quit => {}
             Outcome::Fault { line: _, fault: _ } => targets.back(before),
-            Outcome::Wrong { line: _ } => targets.back(before),
         },
         Err(_) => targets.back(before),
     }

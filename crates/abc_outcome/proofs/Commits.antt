@@ -1,8 +1,8 @@
 -- What a commit leaves of an item.
-use Rattle.std.proofs.Common.{◌≡◌, ◌⊎◌, ◌≤◌, inl, inr, ℕ, suc, arith, Bool, true, false, List, [], ◌∷◌, ◌++◌, length, nat_lt, cond, refl, sym, ap, subst, ◌∙◌, codes}
+use Rattle.std.proofs.Common.{◌≡◌, ◌⊎◌, ◌≤◌, ◌<◌, ◌&&◌, inl, inr, ℕ, suc, arith, Bool, true, false, List, [], ◌∷◌, ◌++◌, length, nat_lt, cond, refl, sym, ap, subst, ◌∙◌, codes}
 use Rattle.std.specs.Prelude.{OnOk, IsErrOf, IsTrue, Result, Ok, Err, Option, Some}
 use Rattle.std.specs.List.{list_all}
-use Rattle.std.proofs.lemmas.Bool.{lt-leb}
+use Rattle.std.proofs.lemmas.Bool.{le-leb, lt-leb}
 use Rattle.abc_num.specs.declared.limits.TheConstants.{MOST_TARGETS, MOST_UNITS, MOST_RECORD_BYTES}
 use Rattle.abc_outside.specs.Outside.{Outside, RoseByOne, KeepsButStore}
 use Rattle.abc_outside.specs.Stop.{Leaves, IsQuiet}
@@ -28,7 +28,7 @@ use Rattle.abc_outcome.specs.declared.answering.AnswerFault.TheVariants.{StoreFa
 use Rattle.abc_num.specs.declared.lines.RawLine.{RawLine}
 use Rattle.abc_outcome.specs.Reply.{ended, fault_line, said}
 use Rattle.abc_outcome.specs.Spelled.{are_spelled_lines, has_spelling}
-use Rattle.abc_outcome.specs.Outcome.{Behind, Ending, ends_with, on_stored, kept_outcome, accepted, accepted_line, unit_outcome, stored_if_spelled}
+use Rattle.abc_outcome.specs.Outcome.{Behind, Ending, ends_with, on_stored, kept_outcome, accepted, accepted_line, set_outcome, stored_if_spelled}
 use Rattle.abc_outcome.specs.Answers.{OpensToWork, told, work_in}
 use Rattle.abc_outcome.specs.inner.Settling.{Settles}
 use Rattle.abc_outcome.specs.inner.Steps.{Closes}
@@ -62,7 +62,7 @@ kept_targets bounds k work ending targets cs line changes few spelled is =
 -- a unit, where its lines can be spelled
 pub unit_kept : (bounds : Bounds) (k : ℕ) (work : Work) (behind : Behind) (u : Routine) (cs : List Change) (line : List ℕ)
     → length (with_routine work.kept u).units ≤ MOST_UNITS → are_spelled_lines u.lines ≡ true → line ≡ accepted_line k u (with_routine work.kept u).units → cs ≡ SetUnit u.lines ∷ []
-    → on_stored k work (record { output = []; left = behind.lines; line = line; quits = false }) (stored bounds work cs (with_routine work.kept u)) ≡ unit_outcome bounds k work behind u
+    → on_stored k work (record { output = []; left = behind.lines; line = line; quits = false }) (stored bounds work cs (with_routine work.kept u)) ≡ set_outcome bounds k work behind u
 unit_kept bounds k work behind u cs line few spelled is changes =
     let later = with_routine work.kept u in
     let ending = accepted k behind.lines u later.units in
@@ -71,6 +71,24 @@ unit_kept bounds k work behind u cs line few spelled is changes =
     ∙ ap (λ (cs : List Change). on_stored k work ending (stored bounds work cs later)) changes
     ∙ ap (on_stored k work ending) (sym (spelled_is bounds work (SetUnit u.lines ∷ []) later (and_both (are_spelled_lines u.lines) true spelled refl)))
     ∙ sym (ap (λ b. cond b (ends_with work behind.lines [] (fault_line k 1 (codes "TooManyUnits"))) whole) (lt-leb (suc MOST_UNITS) (length later.units) (omega (arith, few))))
+
+-- one for which there is no room
+pub unit_full : (bounds : Bounds) (k : ℕ) (work : Work) (behind : Behind) (u : Routine) → MOST_UNITS < length (with_routine work.kept u).units
+    → set_outcome bounds k work behind u ≡ ends_with work behind.lines [] (fault_line k 1 (codes "TooManyUnits"))
+unit_full bounds k work behind u more =
+    let later = with_routine work.kept u in
+    let whole = on_stored k work (accepted k behind.lines u later.units) (stored_if_spelled bounds work (SetUnit u.lines ∷ []) later) in
+    ap (λ b. cond b (ends_with work behind.lines [] (fault_line k 1 (codes "TooManyUnits"))) whole) (le-leb (suc MOST_UNITS) (length later.units) (omega (arith, more)))
+
+-- and one whose lines can't be spelled
+pub unit_unspelled : (bounds : Bounds) (k : ℕ) (work : Work) (behind : Behind) (u : Routine) → length (with_routine work.kept u).units ≤ MOST_UNITS → are_spelled_lines u.lines ≡ false
+    → set_outcome bounds k work behind u ≡ ends_with work behind.lines [] (fault_line k 1 (codes "TooLarge"))
+unit_unspelled bounds k work behind u few not =
+    let later = with_routine work.kept u in
+    let ending = accepted k behind.lines u later.units in
+    let whole = on_stored k work ending (stored_if_spelled bounds work (SetUnit u.lines ∷ []) later) in
+    ap (λ b. cond b (ends_with work behind.lines [] (fault_line k 1 (codes "TooManyUnits"))) whole) (lt-leb (suc MOST_UNITS) (length later.units) (omega (arith, few)))
+    ∙ ap (on_stored k work ending) (unspelled_is bounds work (SetUnit u.lines ∷ []) later (ap (λ b. b && true) not))
 
 -- ---- what is stored
 

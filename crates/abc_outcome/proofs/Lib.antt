@@ -15,3 +15,7 @@ mod Taking
 mod Runs
 mod Items
 mod Hindering
+mod Typed
+mod Accepted
+mod KeepsUnits
+mod Told

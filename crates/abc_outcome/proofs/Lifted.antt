@@ -13,7 +13,8 @@ use Rattle.abc_store.specs.View.{View, work_of}
 use Rattle.abc_outcome.specs.declared.answering.Answer.{Answer}
 use Rattle.abc_outcome.specs.declared.answering.AnswerFault.{AnswerFault}
 use Rattle.abc_outcome.specs.declared.answering.AnswerFault.TheVariants.{Input, Long, StoreFault, Memory}
-use Rattle.abc_outcome.specs.Answers.{Answers, AsksInside, CameTo, ReadsInside, behind_at, told}
+use Rattle.abc_outcome.specs.Answers.{AsksInside, CameTo, ReadsInside, behind_at, told}
+use Rattle.abc_outcome.specs.inner.Answering.{Answers}
 use Rattle.abc_outcome.specs.Outcome.{Behind, Outcome}
 use Rattle.abc_outcome.specs.inner.Settling.{Settles}
 

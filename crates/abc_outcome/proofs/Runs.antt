@@ -8,8 +8,7 @@ use Rattle.abc_outside.specs.Stop.{Leaves, Extends, IsQuiet}
 use Rattle.abc_outside.proofs.Leaves.{run_after, weaken}
 use Rattle.abc_journal.specs.declared.layout.Bounds.{Bounds}
 use Rattle.abc_meaning.specs.Ran.{Ran}
-use Rattle.abc_machine.specs.Outcomes.{outcome_of}
-use Rattle.abc_eval.specs.Runs.{WantsLine}
+use Rattle.abc_eval.specs.Runs.{WantsLine, outcome_of}
 use Rattle.abc_turns.specs.Session.{wants}
 use Rattle.abc_turns.specs.Stops.{IsInCommit}
 use Rattle.abc_reader.specs.Asking.{Asked, AskedRising, next_ask}
@@ -22,7 +21,8 @@ use Rattle.abc_outcome.specs.declared.answering.Answer.{Answer}
 use Rattle.abc_outcome.specs.declared.answering.AnswerFault.{AnswerFault}
 use Rattle.abc_outcome.specs.declared.answering.AnswerFault.TheVariants.{Input, Long, StoreFault, Memory}
 use Rattle.abc_outcome.specs.declared.commands.Left.{Left}
-use Rattle.abc_outcome.specs.Answers.{Answers, AsksInside, CameTo, OpensToWork, ReadsInside, WantsInside, behind_at, told, work_in}
+use Rattle.abc_outcome.specs.Answers.{AsksInside, CameTo, OpensToWork, ReadsInside, WantsInside, behind_at, told, work_in}
+use Rattle.abc_outcome.specs.inner.Answering.{Answers}
 use Rattle.abc_outcome.specs.Outcome.{Behind, Outcome, on_end, on_ran}
 use Rattle.abc_outcome.specs.inner.Running.{IsLeft, RanTo, RunAsks, RunWants, Runs}
 use Rattle.abc_outcome.specs.inner.Settling.{Settles}

@@ -28,7 +28,7 @@ use Rattle.abc_inquiry.specs.Inquiry.{inquiry}
 use Rattle.abc_outcome.specs.Names.{fault_name, run_fault_name}
 use Rattle.abc_outcome.specs.Reply.{reply_line, ok_line, fault_line, said, ended}
 use Rattle.abc_outcome.specs.Missing.{first_missing, line_to, called_by}
-use Rattle.abc_outcome.specs.Outcome.{Behind, Outcome, Ending, ends_with, on_stored, stored_if_spelled, kept_outcome, on_stop, on_end, run_of, run_outcome, unless_missing, command_outcome, accepted, unit_outcome, on_inquiry, without_unit, on_item, on_fault, outcome}
+use Rattle.abc_outcome.specs.Outcome.{Behind, Outcome, Ending, ends_with, on_stored, stored_if_spelled, kept_outcome, on_stop, on_end, run_of, run_outcome, unless_missing, unless_unfit, command_outcome, accepted, set_outcome, unit_outcome, on_inquiry, without_unit, on_item, on_fault, outcome}
 use Rattle.abc_outcome.specs.Laws.{IsAccepting, ran, set, IsServed, IsUnchanged, NoReplyIsEmpty, RefusalsChangeNothing}
 
 pub data Shape (k : ℕ) (work : Work) : Outcome → Type 0 where
@@ -58,7 +58,7 @@ module _ (k : ℕ) (work : Work) where
 
   stop_shape : (left : List RawLine) (output : List ℕ) (line : ℕ) (stop : Stop) → Shape k work (on_stop k work left output line stop)
   stop_shape left output line (faulty fault) = fails work left output line (run_fault_name fault) refl
-  stop_shape left output line wrong = fails work left output line (codes "Wrong") refl
+  stop_shape left output line wrong = fails work left output line (codes "TypeFault") refl
   stop_shape left output line run.wants = waits
 
   end_shape : (bounds : Bounds) (left : List RawLine) (output : List ℕ) (targets : Targets) (end : End) → Shape k work (on_end bounds k work left output targets end)
@@ -73,15 +73,23 @@ module _ (k : ℕ) (work : Work) where
   missing_shape behind c None run p = p
   missing_shape behind c (Some t) run p = fails work behind.lines [] (line_to work.kept.units t c) (codes "Missing " ++ t) refl
 
-  command_shape : (bounds : Bounds) (budget : ℕ) (behind : Behind) (c : Command) → Shape k work (command_outcome bounds budget k work behind c)
-  command_shape bounds budget behind c =
-      missing_shape behind c (first_missing work.kept.units (called_by c)) (run_outcome bounds budget k work behind c) (run_shape bounds (run_of budget work.kept behind c))
+  unfit_shape : (behind : Behind) (line : Option ℕ) (rest : Outcome) → Shape k work rest → Shape k work (unless_unfit k work behind line rest)
+  unfit_shape behind None rest p = p
+  unfit_shape behind (Some n) rest p = fails work behind.lines [] n (codes "TypeFault") refl
 
-  unit_shape : (bounds : Bounds) (behind : Behind) (u : Routine) → Shape k work (unit_outcome bounds k work behind u)
-  unit_shape bounds behind u =
+  command_shape : (type_line : Option ℕ) (bounds : Bounds) (budget : ℕ) (behind : Behind) (c : Command) → Shape k work (command_outcome type_line bounds budget k work behind c)
+  command_shape type_line bounds budget behind c =
+      missing_shape behind c (first_missing work.kept.units (called_by c)) _
+      (unfit_shape behind type_line (run_outcome bounds budget k work behind c) (run_shape bounds (run_of budget work.kept behind c)))
+
+  set_shape : (bounds : Bounds) (behind : Behind) (u : Routine) → Shape k work (set_outcome bounds k work behind u)
+  set_shape bounds behind u =
       one_of (nat_lt MOST_UNITS (length (with_routine work.kept u).units)) _ _ (fails work behind.lines [] 1 (codes "TooManyUnits") refl)
       (stored_shape (accepted k behind.lines u (with_routine work.kept u).units) (stored_if_spelled bounds work (SetUnit u.lines ∷ []) (with_routine work.kept u))
       (set (template_text u.template) (first_missing (with_routine work.kept u).units (template_text u.template ∷ []))))
+
+  unit_shape : (type_line : Option ℕ) (bounds : Bounds) (behind : Behind) (u : Routine) → Shape k work (unit_outcome type_line bounds k work behind u)
+  unit_shape type_line bounds behind u = unfit_shape behind type_line (set_outcome bounds k work behind u) (set_shape bounds behind u)
 
   inquiry_shape : (bounds : Bounds) (left : List RawLine) (found : Answered) → Shape k work (on_inquiry bounds k work left found)
   inquiry_shape bounds left (Shows output) = served work left output (ok_line k) false ran
@@ -106,16 +114,16 @@ some_accepting k line ran = some_line k (codes "ok")
 some_accepting k line (set template None) = some_line k (codes "unit " ++ template)
 some_accepting k line (set template (Some missing)) = some_line k (codes "unit " ++ template ++ codes " waits for " ++ missing)
 
-item_shape : (k : ℕ) (work : Work) (bounds : Bounds) (budget : ℕ) (behind : Behind) (found : Option Item) → Shape k work (on_item bounds budget k work behind found)
-item_shape k work bounds budget behind None = fails k work work behind.lines [] 1 (fault_name BadCommand) refl
-item_shape k work bounds budget behind (Some (item.Command c)) = command_shape k work bounds budget behind c
-item_shape k work bounds budget behind (Some (item.Unit u)) = unit_shape k work bounds behind u
-item_shape k work bounds budget behind (Some (item.Environment asked)) = inquiry_shape k work bounds behind.lines (inquiry work.kept asked)
+item_shape : (type_line : Option ℕ) (k : ℕ) (work : Work) (bounds : Bounds) (budget : ℕ) (behind : Behind) (found : Option Item) → Shape k work (on_item type_line bounds budget k work behind found)
+item_shape type_line k work bounds budget behind None = fails k work work behind.lines [] 1 (fault_name BadCommand) refl
+item_shape type_line k work bounds budget behind (Some (item.Command c)) = command_shape k work type_line bounds budget behind c
+item_shape type_line k work bounds budget behind (Some (item.Unit u)) = unit_shape k work type_line bounds behind u
+item_shape type_line k work bounds budget behind (Some (item.Environment asked)) = inquiry_shape k work bounds behind.lines (inquiry work.kept asked)
 
-shape_of : (bounds : Bounds) (budget k : ℕ) (work : Work) (lines : List Line) (behind : Behind) → Shape k work (outcome bounds budget k work lines behind)
+shape_of : (type_line : Option ℕ) (bounds : Bounds) (budget k : ℕ) (work : Work) (lines : List Line) (behind : Behind) → Shape k work (outcome type_line bounds budget k work lines behind)
 unfolding outcome
-shape_of bounds budget k work lines behind =
-    fault_shape k work behind (item_fault lines (keys_of work.kept.targets)) _ (item_shape k work bounds budget behind (item_of lines (keys_of work.kept.targets)))
+shape_of type_line bounds budget k work lines behind =
+    fault_shape k work behind (item_fault lines (keys_of work.kept.targets)) _ (item_shape type_line k work bounds budget behind (item_of lines (keys_of work.kept.targets)))
 
 -- what holds of an item that came to something
 abbrev IfCame : (List ℕ → Work → Bool → Type 0) → Outcome → Type 0
@@ -133,9 +141,9 @@ served_or_unchanged k work out (served w left output line quits is) = inl (outpu
 served_or_unchanged k work out waits = tt
 
 pub no_reply_is_empty : NoReplyIsEmpty
-no_reply_is_empty bounds budget k work later lines behind reply left quits is =
-    subst (IfCame (λ reply later quits. 0 < length reply)) is (some_reply k work (outcome bounds budget k work lines behind) (shape_of bounds budget k work lines behind))
+no_reply_is_empty type_line bounds budget k work later lines behind reply left quits is =
+    subst (IfCame (λ reply later quits. 0 < length reply)) is (some_reply k work (outcome type_line bounds budget k work lines behind) (shape_of type_line bounds budget k work lines behind))
 
 pub refusals_change_nothing : RefusalsChangeNothing
-refusals_change_nothing bounds budget k work later lines behind reply left quits is =
-    subst (IfCame (λ reply later quits. IsServed k reply ⊎ IsUnchanged work later quits)) is (served_or_unchanged k work (outcome bounds budget k work lines behind) (shape_of bounds budget k work lines behind))
+refusals_change_nothing type_line bounds budget k work later lines behind reply left quits is =
+    subst (IfCame (λ reply later quits. IsServed k reply ⊎ IsUnchanged work later quits)) is (served_or_unchanged k work (outcome type_line bounds budget k work lines behind) (shape_of type_line bounds budget k work lines behind))

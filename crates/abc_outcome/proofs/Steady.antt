@@ -29,7 +29,7 @@ use Rattle.abc_inquiry.specs.declared.answering.Answered.{Answered}
 use Rattle.abc_inquiry.specs.declared.answering.Answered.TheVariants.{Shows, Drops, NoUnit, NoTarget, TooLong}
 use Rattle.abc_inquiry.specs.Inquiry.{inquiry}
 use Rattle.abc_outcome.specs.Missing.{first_missing, called_by}
-use Rattle.abc_outcome.specs.Outcome.{Behind, Outcome, Ending, on_stored, stored_if_spelled, kept_outcome, on_stop, on_end, on_ran, run_of, run_outcome, unless_missing, command_outcome, accepted, unit_outcome, on_inquiry, inquiry_outcome, without_unit, on_item, on_fault, outcome}
+use Rattle.abc_outcome.specs.Outcome.{Behind, Outcome, Ending, on_stored, stored_if_spelled, kept_outcome, on_stop, on_end, on_ran, run_of, run_outcome, unless_missing, unless_unfit, command_outcome, accepted, set_outcome, unit_outcome, on_inquiry, inquiry_outcome, without_unit, on_item, on_fault, outcome}
 use Rattle.abc_outcome.specs.Laws.{CameStays, LeavesNoMore, ComesAtEnd}
 
 -- ---- lines that a run leaves
@@ -99,7 +99,7 @@ module _ (more : List RawLine) where
   ran_longer bounds k work r s false w same =
       subst (λ (s : Ran). Longer (on_ran bounds k work r) (on_ran bounds k work s)) (sym (same w)) (end_longer bounds k work r.lines r.output r.targets r.outcome)
 
-  module _ (bounds : Bounds) (budget k : ℕ) (work : Work) (lines : List RawLine) (ended : Bool) where
+  module _ (type_line : Option ℕ) (bounds : Bounds) (budget k : ℕ) (work : Work) (lines : List RawLine) (ended : Bool) where
     abbrev there : Behind
     there = record { lines = lines; ends = false }
 
@@ -115,8 +115,12 @@ module _ (more : List RawLine) where
     missing_longer c None x y p = p
     missing_longer c (Some t) x y p = refl
 
-    unit_longer : (u : Routine) → Longer (unit_outcome bounds k work there u) (unit_outcome bounds k work with_more u)
-    unit_longer u =
+    unfit_longer : (line : Option ℕ) (x y : Outcome) → Longer x y → Longer (unless_unfit k work there line x) (unless_unfit k work with_more line y)
+    unfit_longer None x y p = p
+    unfit_longer (Some n) x y p = refl
+
+    set_longer : (u : Routine) → Longer (set_outcome bounds k work there u) (set_outcome bounds k work with_more u)
+    set_longer u =
         one_longer (nat_lt MOST_UNITS (length (with_routine work.kept u).units)) _ _ _ _ refl
         (stored_longer k work (accepted k lines u (with_routine work.kept u).units) (stored_if_spelled bounds work (SetUnit u.lines ∷ []) (with_routine work.kept u)))
 
@@ -128,23 +132,23 @@ module _ (more : List RawLine) where
     inquiry_longer (Drops template) =
         stored_longer k work (record { output = []; left = lines; line = _; quits = false }) (stored bounds work (DropUnit template ∷ []) (without_unit template work.kept))
 
-    item_longer : (found : Option Item) → Longer (on_item bounds budget k work there found) (on_item bounds budget k work with_more found)
+    item_longer : (found : Option Item) → Longer (on_item type_line bounds budget k work there found) (on_item type_line bounds budget k work with_more found)
     item_longer None = refl
-    item_longer (Some (item.Command c)) = missing_longer c (first_missing work.kept.units (called_by c)) _ _ (run_longer c)
-    item_longer (Some (item.Unit u)) = unit_longer u
+    item_longer (Some (item.Command c)) = missing_longer c (first_missing work.kept.units (called_by c)) _ _ (unfit_longer type_line _ _ (run_longer c))
+    item_longer (Some (item.Unit u)) = unfit_longer type_line _ _ (set_longer u)
     item_longer (Some (item.Environment asked)) = inquiry_longer (inquiry work.kept asked)
 
     fault_longer : (fault : Option Fault) (x y : Outcome) → Longer x y → Longer (on_fault k work there fault x) (on_fault k work with_more fault y)
     fault_longer None x y p = p
     fault_longer (Some fault) x y p = refl
 
-    outcome_longer : (item : List Line) → Longer (outcome bounds budget k work item there) (outcome bounds budget k work item with_more)
+    outcome_longer : (item : List Line) → Longer (outcome type_line bounds budget k work item there) (outcome type_line bounds budget k work item with_more)
     unfolding outcome
     outcome_longer item = fault_longer (item_fault item (keys_of work.kept.targets)) _ _ (item_longer (item_of item (keys_of work.kept.targets)))
 
 pub came_stays : CameStays
-came_stays bounds budget k work later item lines left more ended reply quits is =
-    subst (λ (x : Outcome). Longer more x (outcome bounds budget k work item (record { lines = lines ++ more; ends = ended }))) is (outcome_longer more bounds budget k work lines ended item)
+came_stays type_line bounds budget k work later item lines left more ended reply quits is =
+    subst (λ (x : Outcome). Longer more x (outcome type_line bounds budget k work item (record { lines = lines ++ more; ends = ended }))) is (outcome_longer more type_line bounds budget k work lines ended item)
 
 -- ---- the lines that are left, and the end of the input
 
@@ -187,8 +191,12 @@ module _ (bounds : Bounds) (budget k : ℕ) (work : Work) (n : ℕ) (ends : Bool
   missing_fits behind c None x le p = p
   missing_fits behind c (Some t) x le p = le
 
-  unit_fits : (behind : Behind) (u : Routine) → length behind.lines ≤ n → Fits n ends (unit_outcome bounds k work behind u)
-  unit_fits behind u le =
+  unfit_fits : (behind : Behind) (line : Option ℕ) (x : Outcome) → length behind.lines ≤ n → Fits n ends x → Fits n ends (unless_unfit k work behind line x)
+  unfit_fits behind None x le p = p
+  unfit_fits behind (Some m) x le p = le
+
+  set_fits : (behind : Behind) (u : Routine) → length behind.lines ≤ n → Fits n ends (set_outcome bounds k work behind u)
+  set_fits behind u le =
       one_fits (nat_lt MOST_UNITS (length (with_routine work.kept u).units)) _ _ le
       (stored_fits (accepted k behind.lines u (with_routine work.kept u).units) (stored_if_spelled bounds work (SetUnit u.lines ∷ []) (with_routine work.kept u)) le)
 
@@ -203,7 +211,7 @@ module _ (bounds : Bounds) (budget k : ℕ) (work : Work) (n : ℕ) (ends : Bool
   fault_fits behind None x le p = p
   fault_fits behind (Some fault) x le p = le
 
-module _ (bounds : Bounds) (budget k : ℕ) (work : Work) (lines : List RawLine) (ends : Bool) where
+module _ (type_line : Option ℕ) (bounds : Bounds) (budget k : ℕ) (work : Work) (lines : List RawLine) (ends : Bool) where
   abbrev seen : Behind
   seen = record { lines = lines; ends = ends }
 
@@ -217,18 +225,19 @@ module _ (bounds : Bounds) (budget k : ℕ) (work : Work) (lines : List RawLine)
       let left = lines_left work.kept.units c work.kept.targets lines ends budget in
       end_fits bounds budget k work (length lines) ends r.lines r.output r.targets r.outcome (none_at_end c ends) (let long = ap length left.1 in omega (arith, long, length-append left.0 r.lines))
 
-  item_fits : (found : Option Item) → Fits (length lines) ends (on_item bounds budget k work seen found)
+  item_fits : (found : Option Item) → Fits (length lines) ends (on_item type_line bounds budget k work seen found)
   item_fits None = omega arith
-  item_fits (Some (item.Command c)) = missing_fits bounds budget k work (length lines) ends seen c (first_missing work.kept.units (called_by c)) _ (omega arith) (run_fits c)
-  item_fits (Some (item.Unit u)) = unit_fits bounds budget k work (length lines) ends seen u (omega arith)
+  item_fits (Some (item.Command c)) = missing_fits bounds budget k work (length lines) ends seen c (first_missing work.kept.units (called_by c)) _ (omega arith)
+      (unfit_fits bounds budget k work (length lines) ends seen type_line _ (omega arith) (run_fits c))
+  item_fits (Some (item.Unit u)) = unfit_fits bounds budget k work (length lines) ends seen type_line _ (omega arith) (set_fits bounds budget k work (length lines) ends seen u (omega arith))
   item_fits (Some (item.Environment asked)) = inquiry_fits bounds budget k work (length lines) ends lines (inquiry work.kept asked) (omega arith)
 
-  outcome_fits : (item : List Line) → Fits (length lines) ends (outcome bounds budget k work item seen)
+  outcome_fits : (item : List Line) → Fits (length lines) ends (outcome type_line bounds budget k work item seen)
   unfolding outcome
   outcome_fits item = fault_fits bounds budget k work (length lines) ends seen (item_fault item (keys_of work.kept.targets)) _ (omega arith) (item_fits (item_of item (keys_of work.kept.targets)))
 
 pub no_longer : LeavesNoMore
-no_longer bounds budget k work later item lines left ends reply quits is = subst (Fits (length lines) ends) is (outcome_fits bounds budget k work lines ends item)
+no_longer type_line bounds budget k work later item lines left ends reply quits is = subst (Fits (length lines) ends) is (outcome_fits type_line bounds budget k work lines ends item)
 
 pub came_at_end : ComesAtEnd
-came_at_end bounds budget k work item lines is = subst (Fits (length lines) true) is (outcome_fits bounds budget k work lines true item)
+came_at_end type_line bounds budget k work item lines is = subst (Fits (length lines) true) is (outcome_fits type_line bounds budget k work lines true item)

@@ -15,13 +15,12 @@ use Rattle.abc_meaning.specs.State.{wants}
 use Rattle.abc_meaning.specs.Ran.{Ran as Meant, Outcome as End, stopped, ran}
 use Rattle.abc_meaning.specs.Laws.{wants_more}
 use Rattle.abc_meaning.proofs.Longer.{command_is_same}
-use Rattle.abc_machine.specs.Outcomes.{outcome_of}
-use Rattle.abc_machine.specs.declared.outcome.Outcome.{Outcome}
-use Rattle.abc_machine.specs.declared.outcome.Outcome.TheVariants.{Done, Quit, Fault, Wrong}
 use Rattle.abc_machine.specs.declared.outcome.RunStop.{RunStop}
 use Rattle.abc_machine.specs.declared.outcome.RunStop.TheVariants as broken
+use Rattle.abc_eval.specs.declared.outcome.Outcome.{Outcome}
+use Rattle.abc_eval.specs.declared.outcome.Outcome.TheVariants.{Done, Quit, Fault}
 use Rattle.abc_eval.specs.declared.running.Ran.{Ran}
-use Rattle.abc_eval.specs.Runs.{WantsLine, WantsThere, as_meant}
+use Rattle.abc_eval.specs.Runs.{WantsLine, WantsThere, as_meant, outcome_of}
 use Rattle.abc_reader.specs.Asking.{Asked, Rises, AskedRising, next_ask}
 use Rattle.abc_reader.specs.Lending.{SomeOf, EndsLine, CallsRead}
 use Rattle.abc_reader.specs.Reading.{Reading, IsReader, MayBe, MayFollow, WaitsAt, ReadLines, bytes_used, ends_at, lines_behind, unread_in}
@@ -43,7 +42,6 @@ none_wanted : (o : Outcome) → wants_more (outcome_of o) ≡ false
 none_wanted Done = refl
 none_wanted Quit = refl
 none_wanted (Fault line fault) = refl
-none_wanted (Wrong line) = refl
 
 not_wanting : (g : Meant) → WantsLine g → wants_more g.outcome ≡ false → ⊥
 not_wanting g wanting none = let e : true ≡ false = sym (ap wants_more wanting.1) ∙ none in cc

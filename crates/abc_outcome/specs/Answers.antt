@@ -60,11 +60,10 @@ pub record ReadsInside (tells_input tells_said : Type 0) (reading reading_new : 
   pub ended_asks : reading.ended ≡ true → new.asked ≡ old.asked
   pub stands : StandsAt tells_input reading_new new
 
--- An item that comes to this outcome, by what stands behind it, was answered, from one host, reader and store to others.
-pub record Answers {H : Type 0} (tells_image tells_input tells_said : Type 0) (now : H → Outside) (clock : H → ℕ) (stopped : H → ℕ → List ℕ → List ℕ → Type 0)
-    (before after : View) (reading reading_new : Reading) (old new : H) (result : Result Answer AnswerFault) (outcome : Behind → Outcome) : Type 0 where
-  -- after Ok the answer, the store and the lines left are the item's outcome, and the image holds it
-  pub came : tells_input → IfOk result (CameTo outcome reading (now old).left reading_new (now new).left (work_of after))
+-- An item was answered, from one host, reader and store to others; whatever it comes to, this holds.
+pub record Keeps {H : Type 0} (tells_image tells_input tells_said : Type 0) (now : H → Outside) (clock : H → ℕ) (stopped : H → ℕ → List ℕ → List ℕ → Type 0)
+    (before after : View) (reading reading_new : Reading) (old new : H) (result : Result Answer AnswerFault) : Type 0 where
+  -- after Ok the image holds the store, which is sound
   pub holds : tells_image → OnOk result (Holds (now new).image (work_of after))
   pub sound : OnOk result (IsTrue after.sound)
   pub faultless : OnOk result (IsFaultless (now old) (now new))
@@ -74,7 +73,6 @@ pub record Answers {H : Type 0} (tells_image tells_input tells_said : Type 0) (n
   -- the input failed, or is too long, while the item wants a line
   pub input : IsErrOf result Input → RoseByOne (now old).input_faults (now new).input_faults
   pub long : IsErrOf result Long → reading_new.taken ≡ reading_new.bound
-  pub waits : tells_input → (IsErrOf result Input ⊎ IsErrOf result Long) → WantsInside outcome reading (now old).left reading_new.taken
   pub ended_ends : reading.ended ≡ true → (IsErrOf result Input ⊎ IsErrOf result Long) → ⊥
   -- where nothing was kept and nothing failed in the store, the store is as before, and so are the image and all that a stop may leave
   pub same : (IsErrOf result Memory ⊎ IsErrOf result Input ⊎ IsErrOf result Long) → after ≡ before
@@ -91,8 +89,14 @@ pub record Answers {H : Type 0} (tells_image tells_input tells_said : Type 0) (n
   pub chosen : (now new).chosen ≡ (now old).chosen
   pub said : (now new).said ≡ (now old).said
   pub reads : ReadsInside tells_input tells_said reading reading_new (now old) (now new)
+  pub quiet : tells_image → IsQuiet clock stopped old (now old).image → OnOk result (IsQuiet clock stopped new (now new).image)
+
+-- An item that comes to this outcome, by what stands behind it, was answered so: after Ok the answer, the store and the lines left are
+-- its outcome; where it was broken off, it still wants a line; and at every moment of the call and at its end.
+pub record ComesTo {H : Type 0} (tells_image tells_input tells_said : Type 0) (now : H → Outside) (clock : H → ℕ) (stopped : H → ℕ → List ℕ → List ℕ → Type 0)
+    (before after : View) (reading reading_new : Reading) (old new : H) (result : Result Answer AnswerFault) (outcome : Behind → Outcome) : Type 0 where
+  pub came : tells_input → IfOk result (CameTo outcome reading (now old).left reading_new (now new).left (work_of after))
+  pub waits : tells_input → (IsErrOf result Input ⊎ IsErrOf result Long) → WantsInside outcome reading (now old).left reading_new.taken
   pub asked : tells_said → tells_input → Asked (AsksInside outcome reading (now old).left (length (now old).said)) (now old).asked (now new).asked
-  -- at every moment of the call, and at its end
   pub stops : tells_image → tells_input → IsQuiet clock stopped old (now old).image
       → Leaves clock stopped old new (IsInCommit OpensToWork (work_of before) (work_in (work_of before) (outcome (behind_at reading (now old).left))) (now old).said)
-  pub quiet : tells_image → IsQuiet clock stopped old (now old).image → OnOk result (IsQuiet clock stopped new (now new).image)

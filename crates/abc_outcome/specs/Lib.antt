@@ -5,5 +5,6 @@ pub mod Missing
 pub mod Spelled
 pub mod Outcome
 pub mod Answers
+pub mod Checks
 pub mod Laws
 pub mod inner

@@ -74,12 +74,19 @@ kept_outcome bounds k work ending targets =
     if nat_lt MOST_TARGETS (length targets) then ends_with work ending.left ending.output (fault_line k 1 (codes "TooManyTargets"))
     else on_stored k work ending (stored_if_spelled bounds work (changes_between work.kept (with_targets work.kept targets)) (with_targets work.kept targets))
 
+-- ---- the type check
+
+-- a line up to which no types fit keeps an item from being served
+abbrev pub unless_unfit : ℕ → Work → Behind → Option ℕ → Outcome → Outcome
+unless_unfit k work behind None served = served
+unless_unfit k work behind (Some n) served = ends_with work behind.lines [] (fault_line k n (codes "TypeFault"))
+
 -- ---- commands
 
--- a run that stopped on a line
+-- a run that stopped on a line; no accepted one stops where no types fit
 abbrev pub on_stop : ℕ → Work → List RawLine → List ℕ → ℕ → Stop → Outcome
 on_stop k work left output line (faulty fault) = ends_with work left output (fault_line k line (run_fault_name fault))
-on_stop k work left output line wrong = ends_with work left output (fault_line k line (codes "Wrong"))
+on_stop k work left output line wrong = ends_with work left output (fault_line k line (codes "TypeFault"))
 on_stop k work left output line run.wants = wants
 
 -- a run that ended so
@@ -103,8 +110,9 @@ abbrev pub unless_missing : ℕ → Work → Behind → Command → Option (List
 unless_missing k work behind c None run = run
 unless_missing k work behind c (Some t) run = ends_with work behind.lines [] (missing_line k (line_to work.kept.units t c) t)
 
-abbrev pub command_outcome : Bounds → ℕ → ℕ → Work → Behind → Command → Outcome
-command_outcome bounds budget k work behind c = unless_missing k work behind c (first_missing work.kept.units (called_by c)) (run_outcome bounds budget k work behind c)
+abbrev pub command_outcome : Option ℕ → Bounds → ℕ → ℕ → Work → Behind → Command → Outcome
+command_outcome line bounds budget k work behind c =
+    unless_missing k work behind c (first_missing work.kept.units (called_by c)) (unless_unfit k work behind line (run_outcome bounds budget k work behind c))
 
 -- ---- units
 
@@ -116,10 +124,13 @@ abbrev pub accepted : ℕ → List RawLine → Routine → List Routine → Endi
 accepted k left u units = record { output = []; left = left; line = accepted_line k u units; quits = false }
 
 -- a unit takes the place of one with its template
-abbrev pub unit_outcome : Bounds → ℕ → Work → Behind → Routine → Outcome
-unit_outcome bounds k work behind u =
+abbrev pub set_outcome : Bounds → ℕ → Work → Behind → Routine → Outcome
+set_outcome bounds k work behind u =
     if nat_lt MOST_UNITS (length (with_routine work.kept u).units) then ends_with work behind.lines [] (fault_line k 1 (codes "TooManyUnits"))
     else on_stored k work (accepted k behind.lines u (with_routine work.kept u).units) (stored_if_spelled bounds work (SetUnit u.lines ∷ []) (with_routine work.kept u))
+
+abbrev pub unit_outcome : Option ℕ → Bounds → ℕ → Work → Behind → Routine → Outcome
+unit_outcome line bounds k work behind u = unless_unfit k work behind line (set_outcome bounds k work behind u)
 
 -- ---- lines that ask about the workspace
 
@@ -146,17 +157,17 @@ inquiry_outcome bounds k work behind asked = on_inquiry bounds k work behind.lin
 -- ---- items
 
 -- the item of lines without a fault; there always is one
-abbrev pub on_item : Bounds → ℕ → ℕ → Work → Behind → Option Item → Outcome
-on_item bounds budget k work behind None = ends_with work behind.lines [] (fault_line k 1 (fault_name BadCommand))
-on_item bounds budget k work behind (Some (item.Command c)) = command_outcome bounds budget k work behind c
-on_item bounds budget k work behind (Some (item.Unit u)) = unit_outcome bounds k work behind u
-on_item bounds budget k work behind (Some (item.Environment asked)) = inquiry_outcome bounds k work behind asked
+abbrev pub on_item : Option ℕ → Bounds → ℕ → ℕ → Work → Behind → Option Item → Outcome
+on_item line bounds budget k work behind None = ends_with work behind.lines [] (fault_line k 1 (fault_name BadCommand))
+on_item line bounds budget k work behind (Some (item.Command c)) = command_outcome line bounds budget k work behind c
+on_item line bounds budget k work behind (Some (item.Unit u)) = unit_outcome line bounds k work behind u
+on_item line bounds budget k work behind (Some (item.Environment asked)) = inquiry_outcome bounds k work behind asked
 
 abbrev pub on_fault : ℕ → Work → Behind → Option Fault → Outcome → Outcome
 on_fault k work behind None whole = whole
 on_fault k work behind (Some fault) whole = ends_with work behind.lines [] (fault_line k fault.line (fault_name fault.kind))
 
--- item k, by its lines, where these stand behind it: the first of these causes that is there, or what the item does
-unfoldable pub outcome : Bounds → ℕ → ℕ → Work → List Line → Behind → Outcome
-outcome bounds budget k work lines behind =
-    on_fault k work behind (item_fault lines (keys_of work.kept.targets)) (on_item bounds budget k work behind (item_of lines (keys_of work.kept.targets)))
+-- item k, by its type line and its lines, where these stand behind it: the first of these causes that is there, or what the item does
+unfoldable pub outcome : Option ℕ → Bounds → ℕ → ℕ → Work → List Line → Behind → Outcome
+outcome line bounds budget k work lines behind =
+    on_fault k work behind (item_fault lines (keys_of work.kept.targets)) (on_item line bounds budget k work behind (item_of lines (keys_of work.kept.targets)))

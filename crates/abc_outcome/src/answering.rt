@@ -1,19 +1,24 @@
 //! The answer to one item.
-ghost use Rattle.std.specs.Prelude.{◌≡◌, ◌<◌, [], true, length, IfOk, IsTrue};
+ghost use Rattle.std.specs.Prelude.{◌≡◌, ◌<◌, ℕ, [], true, length, Option, IfOk, OnOk, IsTrue};
 ghost use Rattle.std.specs.List.{AllByRecursion};
 ghost use Rattle.abc_outline.specs.Rows.{IsShort};
+ghost use Rattle.abc_parse.specs.RegularTemplates.{HasRegularTemplates};
+ghost use Rattle.abc_parse.specs.RegularTrees.{IsNumberedItem, IsRegularItem};
 ghost use Rattle.abc_reader.specs.Reading.{IsReader};
 ghost use Rattle.abc_store.specs.Commit.{Holds};
 ghost use Rattle.abc_store.specs.View.{work_of};
+ghost use Rattle.abc_outcome.specs.Answers.{ComesTo, Keeps};
+ghost use Rattle.abc_outcome.specs.Checks.{IsTypeLineOf, IsUpToDate, TellsOf};
 ghost use Rattle.abc_outcome.specs.Outcome.{Behind, Outcome, outcome};
-ghost use Rattle.abc_outcome.specs.Answers.{Answers};
-ghost use Rattle.abc_outcome.specs.inner.Steps.{ComesOf, IsSpelledItem};
+ghost use Rattle.abc_outcome.specs.inner.Answering.{Answers, IsAnswered};
+ghost use Rattle.abc_outcome.specs.inner.Steps.{ComesOf, IsSpelledItem, item_in};
 
 use crate::commands::answer_command;
 use crate::inquiries::answer_inquiry;
 use crate::names::fault_name;
 use crate::replies::refusal;
 use crate::units::answer_unit;
+use abc_check::Checker;
 use abc_inquiry::asked_can_be_spelled;
 use abc_num::{ItemLines, OutOfMemory, Text};
 use abc_outside::Host;
@@ -49,6 +54,7 @@ pub enum AnswerFault {
 fn answer_parsed<H: Host>(
     alloc: Global,
     store: &mut Store,
+    checker: &mut Option<Checker>,
     host: &mut H,
     reader: &mut Reader,
     parsed: Result<Item, ItemFault>,
@@ -61,15 +67,21 @@ fn answer_parsed<H: Host>(
     requires at_end { H.tells_input → reader.old.ended ≡ true → (H.now host.old).left ≡ [] }
     requires is_reader { IsReader reader.old }
     requires spelled { IfOk parsed IsSpelledItem }
-    ensures { (out : Behind → Outcome) → ComesOf store.old.bounds steps k (work_of store.old) parsed out
+    requires regular { IfOk parsed HasRegularTemplates }
+    requires read { IfOk parsed IsRegularItem }
+    requires numbers { IfOk parsed IsNumberedItem }
+    requires up_to_date { IsUpToDate checker.old store.old.kept.units }
+    ensures comes { (line : Option ℕ) → TellsOf store.old.kept (item_in parsed) line → (out : Behind → Outcome) → ComesOf line store.old.bounds steps k (work_of store.old) parsed out
         → Answers H.tells_image H.tells_input H.tells_said H.now H.clock H.stopped store.old store.new reader.old reader.new host.old host.new result out }
+    ensures answered { IsAnswered H.tells_image H.tells_input H.tells_said H.now H.clock H.stopped store.old store.new reader.old reader.new host.old host.new result }
+    ensures up_to_date { OnOk result (IsUpToDate checker.new store.new.kept.units) }
 {
     match parsed {
         Ok(Item::Command(command)) => {
-            answer_command(alloc, store, host, reader, &command, k, steps)
+            answer_command(alloc, store, checker, host, reader, &command, k, steps)
         }
-        Ok(Item::Unit(unit)) => answer_unit(alloc, store, host, unit, k),
-        Ok(Item::Environment(asked)) => answer_inquiry(alloc, store, host, &asked, k),
+        Ok(Item::Unit(unit)) => answer_unit(alloc, store, checker, host, unit, k),
+        Ok(Item::Environment(asked)) => answer_inquiry(alloc, store, checker, host, &asked, k),
         Err(ItemFault::At(fault)) => {
             refusal(
                 alloc,
@@ -86,7 +98,8 @@ fn answer_parsed<H: Host>(
 /// Answers item `k`, which may take so many steps, and lines that stand behind it where it reads: runs it over a copy of the targets,
 /// makes up its reply, and keeps what it changes. What the item does comes first of its cost; the names of the targets are copied for
 /// the parser, the targets for the run, and what has changed is found by one pass over both. Of the units only those that the item
-/// reaches are read.
+/// reaches are read; but a unit is checked together with all of them, and so is the first command after units have changed, where
+/// there is no checker of them yet.
 ///
 /// Errors: `StoreFault` where a call of the host on the store failed; then the store isn't sound any more, and its image opens to
 /// the workspace before the item or after it. `Input` where a read failed, and `Long` where as many bytes as the bound were taken,
@@ -94,6 +107,7 @@ fn answer_parsed<H: Host>(
 pub fn answer_item<H: Host>(
     alloc: Global,
     store: &mut Store,
+    checker: &mut Option<Checker>,
     host: &mut H,
     reader: &mut Reader,
     item: &ItemLines,
@@ -106,8 +120,12 @@ pub fn answer_item<H: Host>(
     requires at_end { H.tells_input → reader.old.ended ≡ true → (H.now host.old).left ≡ [] }
     requires some { 0 < length item.now }
     requires short { AllByRecursion IsShort item.now }
-    ensures { Answers H.tells_image H.tells_input H.tells_said H.now H.clock H.stopped store.old store.new reader.old reader.new host.old host.new result
-        (outcome store.old.bounds steps k (work_of store.old) item.now) }
+    requires up_to_date { IsUpToDate checker.old store.old.kept.units }
+    ensures comes { (line : Option ℕ) → IsTypeLineOf store.old.kept item.now line
+        → ComesTo H.tells_image H.tells_input H.tells_said H.now H.clock H.stopped store.old store.new reader.old reader.new host.old host.new result
+        (outcome line store.old.bounds steps k (work_of store.old) item.now) }
+    ensures keeps { Keeps H.tells_image H.tells_input H.tells_said H.now H.clock H.stopped store.old store.new reader.old reader.new host.old host.new result }
+    ensures up_to_date { OnOk result (IsUpToDate checker.new store.new.kept.units) }
 {
     reader.is_reader();
     let names = match store.targets().names() {
@@ -119,6 +137,7 @@ pub fn answer_item<H: Host>(
     answer_parsed(
         alloc,
         store,
+        checker,
         host,
         reader,
         parse_item(alloc, item, &names),

@@ -1,28 +1,36 @@
 //! The answer to a command.
-ghost use Rattle.std.specs.Prelude.{◌≡◌, ℕ, List, Some, true, [], IsTrue};
+ghost use Rattle.std.specs.Prelude.{◌≡◌, ℕ, List, Option, None, Some, true, [], IsTrue, IfOk, OnOk};
 ghost use Rattle.abc_num.specs.declared.lines.RawLine.{RawLine};
-ghost use Rattle.abc_machine.specs.Outcomes.{outcome_of};
+ghost use Rattle.abc_tree.specs.declared.commands.Item.TheVariants as item;
+ghost use Rattle.abc_groups.specs.Program.{LAST_LINE};
+ghost use Rattle.abc_sound.specs.Checked.{IsReadCommand};
+ghost use Rattle.abc_eval.specs.Runs.{IsAccepted, outcome_of};
+ghost use Rattle.abc_parse.specs.RegularTemplates.{CommandIsRegular};
 ghost use Rattle.abc_reader.specs.Reading.{IsReader};
 ghost use Rattle.abc_store.specs.Commit.{Holds};
 ghost use Rattle.abc_store.specs.View.{work_of};
 ghost use Rattle.abc_outcome.specs.Outcome.{command_outcome, on_end, run_of, run_outcome};
-ghost use Rattle.abc_outcome.specs.Answers.{Answers};
+ghost use Rattle.abc_outcome.specs.inner.Answering.{Answers, IsAnswered};
+ghost use Rattle.abc_outcome.specs.Checks.{IsUpToDate, TakesCommand, TellsOf, TellsTypeLine};
+ghost use Rattle.abc_outcome.specs.Missing.{called_by, first_missing};
 ghost use Rattle.abc_outcome.specs.inner.Running.{Runs};
 ghost use Rattle.abc_outcome.specs.inner.Settling.{Settles};
-ghost use Rattle.abc_outcome.specs.inner.Steps.{IsHindered, Refuses, fault_of as broken_off, hindrance};
+ghost use Rattle.abc_outcome.specs.inner.Steps.{Hinders, IsHindered, Refuses, fault_of as broken_off, hindrance, if_unfit};
 
+use crate::checks::{accept, command_type_line};
 use crate::keeping::keep_targets;
 use crate::missing::missing_of;
 use crate::names::run_fault_name;
 use crate::replies::{missing, refusal};
 use crate::{Answer, AnswerFault};
+use abc_check::Checker;
 use abc_eval::{Outcome, Ran, RunStop, run_item};
 use abc_frames::Targets;
 use abc_num::OutOfMemory;
 use abc_outside::Host;
 use abc_reader::{Reader, ReaderLines};
 use abc_store::Store;
-use abc_tree::{Command, Units};
+use abc_tree::Command;
 use std::alloc::Global;
 
 /// What a command leaves: how it ended, the targets then, and what it wrote.
@@ -37,14 +45,17 @@ pub(crate) struct Left {
 fn answer_left<H: Host>(
     alloc: Global,
     store: &mut Store,
+    checker: &mut Option<Checker>,
     host: &mut H,
     left: Left,
     k: u64,
 ) -> Result<Answer, AnswerFault>
     requires sound { IsTrue store.old.sound }
     requires holds { H.tells_image → Holds (H.now host.old).image (work_of store.old) }
-    ensures { (lines : List RawLine) → Settles H.tells_image H.now H.clock H.stopped store.old store.new host.old host.new result lines
+    requires up_to_date { IsUpToDate checker.old store.old.kept.units }
+    ensures settles { (lines : List RawLine) → Settles H.tells_image H.now H.clock H.stopped store.old store.new host.old host.new result lines
         (on_end store.old.bounds k (work_of store.old) lines left.output.items left.targets (outcome_of left.end)) }
+    ensures up_to_date { IsUpToDate checker.new store.old.kept.units }
 {
     let Left {
         end,
@@ -52,10 +63,9 @@ fn answer_left<H: Host>(
         output,
     } = left;
     match end {
-        Outcome::Done => keep_targets(alloc, store, host, &targets, output, false, k),
-        Outcome::Quit => keep_targets(alloc, store, host, &targets, output, true, k),
+        Outcome::Done => keep_targets(alloc, store, checker, host, &targets, output, false, k),
+        Outcome::Quit => keep_targets(alloc, store, checker, host, &targets, output, true, k),
         Outcome::Fault { line, fault } => refusal(alloc, k, output, line, run_fault_name(fault)),
-        Outcome::Wrong { line } => refusal(alloc, k, output, line, "Wrong"),
     }
 }
 
@@ -79,6 +89,7 @@ fn run_over<H: Host>(
     steps: u64,
 ) -> Result<Left, AnswerFault>
     requires is_reader { IsReader lines.old.reader.now }
+    requires accepted { IsAccepted store.now.kept.units store.now.kept.targets command.now }
     ensures same_reader { lines.new.reader.ghost_name ≡ lines.old.reader.ghost_name }
     ensures same_host { lines.new.host.ghost_name ≡ lines.old.host.ghost_name }
     ensures runs { Runs H.tells_input H.tells_said H.now H.clock H.stopped lines.old.reader.now lines.new.reader.now lines.old.host.now lines.new.host.now result
@@ -118,6 +129,7 @@ fn run<H: Host>(
     requires same_count { (H.now host.old).taken ≡ reader.old.taken }
     requires at_end { H.tells_input → reader.old.ended ≡ true → (H.now host.old).left ≡ [] }
     requires is_reader { IsReader reader.old }
+    requires accepted { IsAccepted store.now.kept.units store.now.kept.targets command.now }
     ensures { Runs H.tells_input H.tells_said H.now H.clock H.stopped reader.old reader.new host.old host.new result
         (λ behind. run_of steps store.now.kept behind command.now) }
 {
@@ -125,10 +137,11 @@ fn run<H: Host>(
     run_over(alloc, store, &mut lines, command, steps)
 }
 
-/// Runs a command, and answers it.
+/// Runs a command that is accepted, and answers it.
 fn answer_run<H: Host>(
     alloc: Global,
     store: &mut Store,
+    checker: &mut Option<Checker>,
     host: &mut H,
     reader: &mut Reader,
     command: &Command,
@@ -140,18 +153,23 @@ fn answer_run<H: Host>(
     requires same_count { (H.now host.old).taken ≡ reader.old.taken }
     requires at_end { H.tells_input → reader.old.ended ≡ true → (H.now host.old).left ≡ [] }
     requires is_reader { IsReader reader.old }
-    ensures { Answers H.tells_image H.tells_input H.tells_said H.now H.clock H.stopped store.old store.new reader.old reader.new host.old host.new result
+    requires accepted { IsAccepted store.old.kept.units store.old.kept.targets command.now }
+    requires up_to_date { IsUpToDate checker.old store.old.kept.units }
+    ensures answers { Answers H.tells_image H.tells_input H.tells_said H.now H.clock H.stopped store.old store.new reader.old reader.new host.old host.new result
         (λ behind. run_outcome store.old.bounds steps k (work_of store.old) behind command.now) }
+    ensures units { OnOk result (store.new.kept.units ≡ store.old.kept.units) }
+    ensures up_to_date { IsUpToDate checker.new store.old.kept.units }
 {
     match run(alloc, store, host, reader, command, steps) {
-        Ok(left) => answer_left(alloc, store, host, left, k),
+        Ok(left) => answer_left(alloc, store, checker, host, left, k),
         Err(fault) => Err(fault),
     }
 }
 
 /// One answer.
 fn one(answer: Result<Answer, AnswerFault>) -> Result<Option<Answer>, AnswerFault>
-    ensures { (line : List ℕ) → Refuses line answer → IsHindered (Some line) result }
+    ensures told { (line : List ℕ) → Refuses line answer → IsHindered (Some line) result }
+    ensures some { IfOk result (λ found. found ≡ None → ⊥) }
 {
     match answer {
         Ok(answer) => Ok(Some(answer)),
@@ -159,17 +177,46 @@ fn one(answer: Result<Answer, AnswerFault>) -> Result<Option<Answer>, AnswerFaul
     }
 }
 
-/// What keeps a command from running, as the answer: it reaches a missing unit.
-fn hindered(
+/// What keeps a command from running that reaches no missing unit, as the answer: no types fit it.
+fn unfit(
     alloc: Global,
-    units: &Units,
+    store: &Store,
+    checker: &mut Option<Checker>,
     command: &Command,
     k: u64,
 ) -> Result<Option<Answer>, AnswerFault>
-    ensures { IsHindered (hindrance units.now k command.now) result }
+    requires up_to_date { IsUpToDate checker.old store.now.kept.units }
+    requires regular { CommandIsRegular command.now }
+    ensures told { (line : Option ℕ) → TellsTypeLine (TakesCommand store.now.kept command.now) LAST_LINE line → IsHindered (if_unfit k line) result }
+    ensures fits { IfOk result (λ found. found ≡ None → TakesCommand store.now.kept command.now LAST_LINE) }
+    ensures hinders { Hinders result }
+    ensures up_to_date { IsUpToDate checker.new store.now.kept.units }
 {
-    match missing_of(alloc, units, command) {
+    match command_type_line(alloc, store, checker, command) {
         Ok(None) => Ok(None),
+        Ok(Some(line)) => one(refusal(alloc, k, Vec::new(alloc), line, "TypeFault")),
+        Err(OutOfMemory) => Err(AnswerFault::Memory),
+    }
+}
+
+/// What keeps a command from running, as the answer: it reaches a missing unit, or no types fit it.
+fn hindered(
+    alloc: Global,
+    store: &Store,
+    checker: &mut Option<Checker>,
+    command: &Command,
+    k: u64,
+) -> Result<Option<Answer>, AnswerFault>
+    requires up_to_date { IsUpToDate checker.old store.now.kept.units }
+    requires regular { CommandIsRegular command.now }
+    ensures told { (line : Option ℕ) → TellsOf store.now.kept (Some (item.Command command.now)) line → IsHindered (hindrance line store.now.kept.units k command.now) result }
+    ensures none_missing { IfOk result (λ found. found ≡ None → first_missing store.now.kept.units (called_by command.now) ≡ None) }
+    ensures fits { IfOk result (λ found. found ≡ None → TakesCommand store.now.kept command.now LAST_LINE) }
+    ensures hinders { Hinders result }
+    ensures up_to_date { IsUpToDate checker.new store.now.kept.units }
+{
+    match missing_of(alloc, store.units(), command) {
+        Ok(None) => unfit(alloc, store, checker, command, k),
         Ok(Some(unit)) => one(missing(alloc, k, unit.line, unit.template.bytes())),
         Err(OutOfMemory) => Err(AnswerFault::Memory),
     }
@@ -179,6 +226,7 @@ fn hindered(
 pub(crate) fn answer_command<H: Host>(
     alloc: Global,
     store: &mut Store,
+    checker: &mut Option<Checker>,
     host: &mut H,
     reader: &mut Reader,
     command: &Command,
@@ -190,11 +238,20 @@ pub(crate) fn answer_command<H: Host>(
     requires same_count { (H.now host.old).taken ≡ reader.old.taken }
     requires at_end { H.tells_input → reader.old.ended ≡ true → (H.now host.old).left ≡ [] }
     requires is_reader { IsReader reader.old }
-    ensures { Answers H.tells_image H.tells_input H.tells_said H.now H.clock H.stopped store.old store.new reader.old reader.new host.old host.new result
-        (λ behind. command_outcome store.old.bounds steps k (work_of store.old) behind command.now) }
+    requires up_to_date { IsUpToDate checker.old store.old.kept.units }
+    requires regular { CommandIsRegular command.now }
+    requires read { IsReadCommand command.now }
+    ensures comes { (line : Option ℕ) → TellsOf store.old.kept (Some (item.Command command.now)) line
+        → Answers H.tells_image H.tells_input H.tells_said H.now H.clock H.stopped store.old store.new reader.old reader.new host.old host.new result
+        (λ behind. command_outcome line store.old.bounds steps k (work_of store.old) behind command.now) }
+    ensures answered { IsAnswered H.tells_image H.tells_input H.tells_said H.now H.clock H.stopped store.old store.new reader.old reader.new host.old host.new result }
+    ensures up_to_date { OnOk result (IsUpToDate checker.new store.new.kept.units) }
 {
-    match hindered(alloc, store.units(), command, k) {
-        Ok(None) => answer_run(alloc, store, host, reader, command, k, steps),
+    match hindered(alloc, store, checker, command, k) {
+        Ok(None) => {
+            accept(store, command);
+            answer_run(alloc, store, checker, host, reader, command, k, steps)
+        }
         Ok(Some(answer)) => Ok(answer),
         Err(fault) => Err(fault),
     }

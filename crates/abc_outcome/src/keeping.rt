@@ -1,18 +1,21 @@
 //! What an item changed, kept in the store.
-ghost use Rattle.std.specs.Prelude.{◌≡◌, ◌≤◌, ◌+◌, ◌++◌, List, length, IsTrue, IfOk, Some, vec_len, vec_capacity, codes};
+ghost use Rattle.std.specs.Prelude.{◌≡◌, ◌≤◌, ◌+◌, ◌++◌, List, length, IsTrue, IfOk, OnOk, Some, vec_len, vec_capacity, codes};
 ghost use Rattle.abc_num.specs.declared.lines.RawLine.{RawLine};
 ghost use Rattle.abc_record.specs.Kept.{AreKept};
 ghost use Rattle.abc_store.specs.Commit.{Holds, stored};
 ghost use Rattle.abc_store.specs.View.{work_of};
-ghost use Rattle.abc_store.specs.Workspace.{Workspace, changed_by, IsWithinLimits};
+ghost use Rattle.abc_store.specs.Workspace.{Workspace, changed_by, with_targets, IsWithinLimits, IsWellTyped};
+ghost use Rattle.abc_outcome.specs.Checks.{IsUpToDate};
 ghost use Rattle.abc_outcome.specs.Outcome.{kept_outcome, on_stored};
 ghost use Rattle.abc_outcome.specs.Reply.{ended as ended_in, fault_line as faulty, ok_line as ok};
 ghost use Rattle.abc_outcome.specs.inner.Settling.{Settles};
 ghost use Rattle.abc_outcome.specs.inner.Steps.{Closes};
 
+use crate::checks::targets_fit;
 use crate::replies::{ended, fault_line, ok_line, refusal};
 use crate::spelled::have_spelling;
 use crate::{Answer, AnswerFault};
+use abc_check::Checker;
 use abc_frames::Targets;
 use abc_num::limits::MOST_TARGETS;
 use abc_num::{OutOfMemory, Text};
@@ -106,7 +109,7 @@ pub(crate) fn keep<H: Host>(
 ) -> Result<Answer, AnswerFault>
     requires sound { IsTrue store.old.sound }
     requires holds { H.tells_image → Holds (H.now host.old).image (work_of store.old) }
-    requires later { (later : Workspace) × (changed_by changes.items store.old.kept ≡ Some later) × IsWithinLimits later }
+    requires later { (later : Workspace) × (changed_by changes.items store.old.kept ≡ Some later) × IsWithinLimits later × IsWellTyped later }
     requires kept { AreKept changes.items }
     ensures { (later : Workspace) (left : List RawLine) → changed_by changes.items store.old.kept ≡ Some later
         → Settles H.tells_image H.now H.clock H.stopped store.old store.new host.old host.new result left
@@ -122,10 +125,36 @@ pub(crate) fn keep<H: Host>(
     replies.told(committed, quit)
 }
 
+/// Types fit the targets that a command left: no input leads one that was accepted to others. Where the host tells nothing of its
+/// input nothing is known of the run, so those that have changed are checked; others are told as want of memory.
+fn assure(
+    alloc: Global,
+    store: &Store,
+    checker: &mut Option<Checker>,
+    targets: &Targets,
+    changes: &[Change],
+) -> Result<(), OutOfMemory>
+    requires up_to_date { IsUpToDate checker.old store.now.kept.units }
+    requires lead { changed_by changes.now store.now.kept ≡ Some (with_targets store.now.kept targets.now) }
+    ensures typed { OnOk result (IsWellTyped (with_targets store.now.kept targets.now)) }
+    ensures up_to_date { IsUpToDate checker.new store.now.kept.units }
+{
+    // Its clause tells that types fit what the store holds.
+    let _there = store.targets();
+    if changes.is_empty() {
+        return Ok(());
+    }
+    if targets_fit(alloc, store, checker, targets)? {
+        return Ok(());
+    }
+    Err(OutOfMemory)
+}
+
 /// Keeps the targets that a command left which wrote this, and answers it.
 pub(crate) fn keep_targets<H: Host>(
     alloc: Global,
     store: &mut Store,
+    checker: &mut Option<Checker>,
     host: &mut H,
     targets: &Targets,
     output: Vec<u8>,
@@ -134,8 +163,10 @@ pub(crate) fn keep_targets<H: Host>(
 ) -> Result<Answer, AnswerFault>
     requires sound { IsTrue store.old.sound }
     requires holds { H.tells_image → Holds (H.now host.old).image (work_of store.old) }
-    ensures { (left : List RawLine) → Settles H.tells_image H.now H.clock H.stopped store.old store.new host.old host.new result left
+    requires up_to_date { IsUpToDate checker.old store.old.kept.units }
+    ensures settles { (left : List RawLine) → Settles H.tells_image H.now H.clock H.stopped store.old store.new host.old host.new result left
         (kept_outcome store.old.bounds k (work_of store.old) (record { output = output.items; left = left; line = ok k; quits = quit }) targets.now) }
+    ensures up_to_date { IsUpToDate checker.new store.old.kept.units }
 {
     let _there = store.targets();
     if targets.len() > MOST_TARGETS {
@@ -148,6 +179,9 @@ pub(crate) fn keep_targets<H: Host>(
     if !have_spelling(&changes) {
         return refusal(alloc, k, output, 1, "TooLarge");
     }
+    let Ok(()) = assure(alloc, store, checker, targets, &changes) else {
+        return Err(AnswerFault::Memory);
+    };
     match ok_line(alloc, k) {
         Ok(line) => keep(
             alloc,

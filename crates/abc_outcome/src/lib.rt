@@ -2,6 +2,7 @@
 #![tactic(auto)]
 
 mod answering;
+mod checks;
 mod commands;
 mod inquiries;
 mod keeping;
@@ -13,7 +14,10 @@ mod spelled;
 mod units;
 
 pub use answering::{Answer, AnswerFault, answer_item};
-pub use laws::{missing_is_least, no_reply_is_empty, outcomes_are_steady, refusals_change_nothing};
+pub use laws::{
+    accepted_commands_are_never_wrong, missing_is_least, no_reply_is_empty, outcomes_are_steady,
+    refusals_change_nothing, type_lines_are_one,
+};
 
 #[cfg(test)]
 mod tests;

@@ -1,17 +1,20 @@
 //! The answer to a unit.
-ghost use Rattle.std.specs.Prelude.{◌≡◌, ◌∷◌, [], Some, IfOk, IsTrue};
+ghost use Rattle.std.specs.Prelude.{◌≡◌, ◌≤◌, ◌∷◌, [], ℕ, length, Option, Some, IfOk, OnOk, IsTrue};
 ghost use Rattle.abc_record.specs.declared.change.Change.TheVariants.{SetUnit};
 ghost use Rattle.abc_store.specs.Commit.{Holds};
 ghost use Rattle.abc_store.specs.View.{work_of};
 ghost use Rattle.abc_store.specs.Workspace.{unit_of_lines};
 ghost use Rattle.abc_tree.specs.Units.{with_unit};
-ghost use Rattle.abc_outcome.specs.Outcome.{Behind, accepted_line, unit_outcome};
+ghost use Rattle.abc_outcome.specs.Checks.{IsUpToDate, TakesUnit, TellsTypeLine};
+ghost use Rattle.abc_outcome.specs.Outcome.{Behind, Outcome, accepted_line, set_outcome, unit_outcome};
 ghost use Rattle.abc_outcome.specs.inner.Settling.{Settles};
 
+use crate::checks::unit_type_line;
 use crate::keeping::{Ending, keep};
 use crate::replies::{refusal, unit_line, waiting_line};
 use crate::spelled::are_spelled_lines;
 use crate::{Answer, AnswerFault};
+use abc_check::Checker;
 use abc_groups::first_missing_with;
 use abc_num::OutOfMemory;
 use abc_outside::Host;
@@ -42,8 +45,8 @@ fn setting(alloc: Global, unit: Unit) -> Result<Vec<Change>, OutOfMemory>
     Ok(changes)
 }
 
-/// Answers a unit, which its own lines spell.
-pub(crate) fn answer_unit<H: Host>(
+/// Answers a unit that types fit, and which its own lines spell.
+fn set_unit<H: Host>(
     alloc: Global,
     store: &mut Store,
     host: &mut H,
@@ -53,8 +56,9 @@ pub(crate) fn answer_unit<H: Host>(
     requires sound { IsTrue store.old.sound }
     requires holds { H.tells_image → Holds (H.now host.old).image (work_of store.old) }
     requires spelled { unit_of_lines unit.lines ≡ Some unit }
+    requires fits { TakesUnit store.old.kept unit (length unit.lines) }
     ensures { (behind : Behind) → Settles H.tells_image H.now H.clock H.stopped store.old store.new host.old host.new result behind.lines
-        (unit_outcome store.old.bounds k (work_of store.old) behind unit) }
+        (set_outcome store.old.bounds k (work_of store.old) behind unit) }
 {
     if !store.has_room_for(&unit) {
         return refusal(alloc, k, Vec::new(alloc), 1, "TooManyUnits");
@@ -79,6 +83,35 @@ pub(crate) fn answer_unit<H: Host>(
             },
             k,
         ),
+        Err(OutOfMemory) => Err(AnswerFault::Memory),
+    }
+}
+
+/// Answers a unit, which its own lines spell. What the type check knew of the units is forgotten, since it may be kept.
+pub(crate) fn answer_unit<H: Host>(
+    alloc: Global,
+    store: &mut Store,
+    checker: &mut Option<Checker>,
+    host: &mut H,
+    unit: Unit,
+    k: u64,
+) -> Result<Answer, AnswerFault>
+    requires sound { IsTrue store.old.sound }
+    requires holds { H.tells_image → Holds (H.now host.old).image (work_of store.old) }
+    requires spelled { unit_of_lines unit.lines ≡ Some unit }
+    requires some { 1 ≤ length unit.lines }
+    requires up_to_date { IsUpToDate checker.old store.old.kept.units }
+    ensures comes { (line : Option ℕ) → TellsTypeLine (TakesUnit store.old.kept unit) (length unit.lines) line → (behind : Behind) → Settles H.tells_image H.now H.clock H.stopped store.old store.new host.old host.new result behind.lines
+        (unit_outcome line store.old.bounds k (work_of store.old) behind unit) }
+    ensures settles { (behind : Behind) → (out : Outcome) × Settles H.tells_image H.now H.clock H.stopped store.old store.new host.old host.new result behind.lines out }
+    ensures up_to_date { OnOk result (IsUpToDate checker.new store.new.kept.units) }
+{
+    match unit_type_line(alloc, store, &unit) {
+        Ok(None) => {
+            *checker = None;
+            set_unit(alloc, store, host, unit, k)
+        }
+        Ok(Some(line)) => refusal(alloc, k, Vec::new(alloc), line, "TypeFault"),
         Err(OutOfMemory) => Err(AnswerFault::Memory),
     }
 }

@@ -8,38 +8,39 @@ use Rattle.abc_turns.specs.Session.{Came, came, Session, session}
 use Rattle.abc_turns.specs.Steady.{IsSteady}
 use Rattle.abc_reader.specs.Items.{next_item}
 use Rattle.abc_store.specs.Commit.{Work}
+use Rattle.abc_outcome.specs.Checks.{Check}
 use Rattle.abc_outcome.specs.Outcome.{Behind, Outcome}
 use Rattle.abc_outcome.specs.Outcome as item
 
 -- what comes of item k, by its lines and by what stands behind it, with the steps that it may take
-abbrev pub outcome : Bounds → ℕ → ℕ → Work → List Line → Behind → Outcome
-outcome bounds steps k work lines behind = item.outcome bounds steps k work lines behind
+abbrev pub outcome : Check → Bounds → ℕ → ℕ → Work → List Line → Behind → Outcome
+outcome check bounds steps k work lines behind = item.outcome (check work.kept lines) bounds steps k work lines behind
 
 -- it may take lines of those that are left behind it
-abbrev pub item_came : Bounds → ℕ → Bool → ℕ → Work → List Line → List RawLine → Came Work RawLine
-item_came bounds steps ended k work lines left = outcome bounds steps k work lines (record { lines = left; ends = ended })
+abbrev pub item_came : Check → Bounds → ℕ → Bool → ℕ → Work → List Line → List RawLine → Came Work RawLine
+item_came check bounds steps ended k work lines left = outcome check bounds steps k work lines (record { lines = left; ends = ended })
 
 -- the session from item k on over these lines, behind which the input ends or goes on
-abbrev pub session_from : Bounds → ℕ → Bool → ℕ → Work → List RawLine → Session Work
-session_from bounds steps ended k work lines = session next_item (item_came bounds steps) ended k work lines
+abbrev pub session_from : Check → Bounds → ℕ → Bool → ℕ → Work → List RawLine → Session Work
+session_from check bounds steps ended k work lines = session next_item (item_came check bounds steps) ended k work lines
 
 -- The lines of an input. An input as long as the bound, or longer, is cut there and has no end.
 abbrev pub lines_of : ℕ → List ℕ → List RawLine
 lines_of bound input = raw_lines (nat_lt (length input) bound) (take bound input)
 
 -- The session over an input. One as long as the bound on it, or longer, is cut there and has no end.
-abbrev pub session_of : Bounds → ℕ → Work → List ℕ → Session Work
-session_of bounds steps start input = session_from bounds steps (nat_lt (length input) bounds.input) 1 start (lines_of bounds.input input)
+abbrev pub session_of : Check → Bounds → ℕ → Work → List ℕ → Session Work
+session_of check bounds steps start input = session_from check bounds steps (nat_lt (length input) bounds.input) 1 start (lines_of bounds.input input)
 
 -- the session over the first bytes of an input that goes on
-abbrev pub front_session : Bounds → ℕ → Work → List ℕ → Session Work
-front_session bounds steps start bytes = session_from bounds steps false 1 start (raw_lines false bytes)
+abbrev pub front_session : Check → Bounds → ℕ → Work → List ℕ → Session Work
+front_session check bounds steps start bytes = session_from check bounds steps false 1 start (raw_lines false bytes)
 
 -- the items are steady, so all laws of sessions hold
 abbrev pub ItemsAreSteady : Type 0
-ItemsAreSteady = (bounds : Bounds) (steps : ℕ) → IsSteady next_item (item_came bounds steps)
+ItemsAreSteady = (check : Check) (bounds : Bounds) (steps : ℕ) → IsSteady next_item (item_came check bounds steps)
 
 -- no reply is empty
 abbrev pub NoReplyIsEmpty : Type 0
-NoReplyIsEmpty = (bounds : Bounds) (steps k : ℕ) (work later : Work) (lines : List Line) (behind : Behind) (reply : List ℕ) (left : List RawLine) (quits : Bool)
-    → outcome bounds steps k work lines behind ≡ came reply later left quits → 0 < length reply
+NoReplyIsEmpty = (check : Check) (bounds : Bounds) (steps k : ℕ) (work later : Work) (lines : List Line) (behind : Behind) (reply : List ℕ) (left : List RawLine) (quits : Bool)
+    → outcome check bounds steps k work lines behind ≡ came reply later left quits → 0 < length reply

@@ -9,11 +9,13 @@ ghost use Rattle.abc_reader.specs.Reading.{StandsAt};
 ghost use Rattle.abc_store.specs.Commit.{Holds};
 ghost use Rattle.abc_store.specs.View.{work_of};
 ghost use Rattle.abc_outcome.specs.Answers.{behind_at, WantsInside, AsksInside, ReadsInside};
+ghost use Rattle.abc_outcome.specs.Checks.{Check, IsExact, IsUpToDate};
 ghost use Rattle.abc_session.specs.Session.{outcome};
 ghost use Rattle.abc_session.specs.Serving.{OpensTo, IsItemStop, NoneFell, OnlyInputFailed, OnlyStoreFailed, OnlySinkFailed};
 ghost use Rattle.abc_session.specs.inner.Place.{place_at, WasServed, WasCut};
 
 use crate::say::say_all;
+use abc_check::Checker;
 use abc_make::Tally;
 use abc_num::ItemLines;
 use abc_outcome::{AnswerFault, answer_item};
@@ -60,6 +62,7 @@ fn stop_of_answer(fault: AnswerFault) -> ServeStop
 pub(crate) fn serve_item<H: Host>(
     alloc: Global,
     store: &mut Store,
+    checker: &mut Option<Checker>,
     host: &mut H,
     reader: &mut Reader,
     item: &ItemLines,
@@ -71,13 +74,14 @@ pub(crate) fn serve_item<H: Host>(
     requires holds { H.tells_image → Holds (H.now host.old).image (work_of store.old) }
     requires stands { StandsAt H.tells_input reader.old (H.now host.old) }
     requires some { 0 < length item.now }
+    requires up_to_date { IsUpToDate checker.old store.old.kept.units }
     requires short { AllByRecursion (λ line. length line.text ≤ MOST_LINE_BYTES) item.now }
     requires countable { tally.old.items < 2 ^ 64 - 1 }
 
-    ensures served { H.tells_input → IfOk result (λ done. WasServed (outcome store.old.bounds steps k (work_of store.old) item.now) H.tells_said
+    ensures served { (check : Check) → IsExact check → H.tells_input → IfOk result (λ done. WasServed (outcome check store.old.bounds steps k (work_of store.old) item.now) H.tells_said
         (place_at k (work_of store.old) reader.old (H.now host.old)) (place_at k (work_of store.new) reader.new (H.now host.new)) tally.old tally.new done.quit) }
     ensures counted { OnOk result (tally.new.items ≡ tally.old.items + 1) }
-    ensures cut { H.tells_said → H.tells_input → IsErrOf result ServeStop.SinkFault → WasCut (outcome store.old.bounds steps k (work_of store.old) item.now)
+    ensures cut { (check : Check) → IsExact check → H.tells_said → H.tells_input → IsErrOf result ServeStop.SinkFault → WasCut (outcome check store.old.bounds steps k (work_of store.old) item.now)
         (place_at k (work_of store.old) reader.old (H.now host.old)) (place_at k (work_of store.new) reader.new (H.now host.new)) }
     ensures unsaid { (IsErrOf result ServeStop.Input ⊎ IsErrOf result ServeStop.Long ⊎ IsErrOf result ServeStop.StoreFault ⊎ IsErrOf result ServeStop.Memory)
         → (H.now host.new).said ≡ (H.now host.old).said }
@@ -95,27 +99,28 @@ pub(crate) fn serve_item<H: Host>(
     ensures holds { H.tells_image → (IsOk result ⊎ IsErrOf result ServeStop.SinkFault) → Holds (H.now host.new).image (work_of store.new) }
     ensures bounds { store.new.bounds ≡ store.old.bounds }
     ensures sound { OnOk result (IsTrue store.new.sound) }
+    ensures up_to_date { OnOk result (IsUpToDate checker.new store.new.kept.units) }
     ensures chosen { (H.now host.new).chosen ≡ (H.now host.old).chosen }
     ensures none_fell { NoneFell (H.now host.old) (H.now host.new) }
 
     // What it asked for.
     ensures reads { ReadsInside H.tells_input H.tells_said reader.old reader.new (H.now host.old) (H.now host.new) }
-    ensures asked { H.tells_said → H.tells_input
-        → Asked (AsksInside (outcome store.old.bounds steps k (work_of store.old) item.now) reader.old (H.now host.old).left (length (H.now host.old).said)) (H.now host.old).asked (H.now host.new).asked }
-    ensures wants { H.tells_input → (IsErrOf result ServeStop.Input ⊎ IsErrOf result ServeStop.Long)
-        → WantsInside (outcome store.old.bounds steps k (work_of store.old) item.now) reader.old (H.now host.old).left reader.new.taken }
+    ensures asked { (check : Check) → IsExact check → H.tells_said → H.tells_input
+        → Asked (AsksInside (outcome check store.old.bounds steps k (work_of store.old) item.now) reader.old (H.now host.old).left (length (H.now host.old).said)) (H.now host.old).asked (H.now host.new).asked }
+    ensures wants { (check : Check) → IsExact check → H.tells_input → (IsErrOf result ServeStop.Input ⊎ IsErrOf result ServeStop.Long)
+        → WantsInside (outcome check store.old.bounds steps k (work_of store.old) item.now) reader.old (H.now host.old).left reader.new.taken }
     ensures ended_ends { reader.old.ended ≡ true → (IsErrOf result ServeStop.Input ⊎ IsErrOf result ServeStop.Long) → ⊥ }
 
     // At every moment of the call, and at its end.
-    ensures stops { H.tells_image → H.tells_said → H.tells_input → IsQuiet H.clock H.stopped host.old (H.now host.old).image
+    ensures stops { (check : Check) → IsExact check → H.tells_image → H.tells_said → H.tells_input → IsQuiet H.clock H.stopped host.old (H.now host.old).image
         → Leaves H.clock H.stopped host.old host.new
-        (IsItemStop (work_of store.old) (outcome store.old.bounds steps k (work_of store.old) item.now (behind_at reader.old (H.now host.old).left)) (H.now host.old).said) }
+        (IsItemStop (work_of store.old) (outcome check store.old.bounds steps k (work_of store.old) item.now (behind_at reader.old (H.now host.old).left)) (H.now host.old).said) }
     ensures quiet { H.tells_image → IsQuiet H.clock H.stopped host.old (H.now host.old).image
         → (IsOk result ⊎ IsErrOf result ServeStop.SinkFault) → IsQuiet H.clock H.stopped host.new (H.now host.new).image }
     ensures idle { (IsErrOf result ServeStop.Memory ⊎ IsErrOf result ServeStop.Input ⊎ IsErrOf result ServeStop.Long)
         → (c s : List ℕ) → Now H.clock H.stopped host.new c s → Now H.clock H.stopped host.old c s }
 {
-    let answered = match answer_item(alloc, store, host, reader, item, k, steps) {
+    let answered = match answer_item(alloc, store, checker, host, reader, item, k, steps) {
         Ok(answered) => answered,
         Err(fault) => return Err(stop_of_answer(fault)),
     };

@@ -8,6 +8,7 @@ ghost use Rattle.abc_reader.specs.Asking.{Asked, AskedRising, next_ask};
 ghost use Rattle.abc_make.specs.Summary.{counted, nothing_counted};
 ghost use Rattle.abc_store.specs.Commit.{Holds};
 ghost use Rattle.abc_store.specs.View.{work_of};
+ghost use Rattle.abc_outcome.specs.Checks.{Check, IsExact, IsUpToDate};
 ghost use Rattle.abc_session.specs.Session.{session_of};
 ghost use Rattle.abc_session.specs.Serving.{OpensTo, IsSessionPoint, NoneFell, OnlyInputFailed, OnlyStoreFailed, OnlySinkFailed};
 ghost use Rattle.abc_session.specs.Settled.{AsksSettled, IsWaiting};
@@ -15,6 +16,7 @@ ghost use Rattle.abc_session.specs.Run.{HasEnded};
 ghost use Rattle.abc_session.specs.inner.Place.{place_at, session_at, counted_at, WentOn, Ended, WantsInput, AsksInput};
 
 use crate::serve::{ServeStop, serve_item};
+use abc_check::Checker;
 use abc_make::Tally;
 use abc_outside::{Host, LineStop};
 use abc_reader::Reader;
@@ -67,6 +69,7 @@ fn stop_of_item(stop: ServeStop) -> SessionStop
 fn turn<H: Host>(
     alloc: Global,
     store: &mut Store,
+    checker: &mut Option<Checker>,
     host: &mut H,
     reader: &mut Reader,
     tally: &mut Tally,
@@ -78,17 +81,18 @@ fn turn<H: Host>(
     requires same_count { (H.now host.old).taken ≡ reader.old.taken }
     requires ended { H.tells_input → reader.old.ended ≡ true → (H.now host.old).left ≡ [] }
     requires counted { served.old ≤ reader.old.used }
+    requires up_to_date { IsUpToDate checker.old store.old.kept.units }
     requires countable { tally.old.items ≤ served.old }
 
-    ensures goes_on { H.tells_input → result ≡ Ok true → WentOn store.old.bounds steps H.tells_said
+    ensures goes_on { (check : Check) → IsExact check → H.tells_input → result ≡ Ok true → WentOn check store.old.bounds steps H.tells_said
         (place_at served.old (work_of store.old) reader.old (H.now host.old)) (place_at served.new (work_of store.new) reader.new (H.now host.new)) }
-    ensures ends { H.tells_input → result ≡ Ok false → Ended store.old.bounds steps H.tells_said
+    ensures ends { (check : Check) → IsExact check → H.tells_input → result ≡ Ok false → Ended check store.old.bounds steps H.tells_said
         (place_at served.old (work_of store.old) reader.old (H.now host.old)) (place_at served.new (work_of store.new) reader.new (H.now host.new)) }
 
     // What is counted with the replies that are left stays, and at the end none is left.
-    ensures tallied { H.tells_input → result ≡ Ok true → counted_at store.old.bounds steps (place_at served.old (work_of store.old) reader.old (H.now host.old)) tally.old
-        ≡ counted_at store.old.bounds steps (place_at served.new (work_of store.new) reader.new (H.now host.new)) tally.new }
-    ensures tallied_whole { H.tells_input → result ≡ Ok false → counted_at store.old.bounds steps (place_at served.old (work_of store.old) reader.old (H.now host.old)) tally.old ≡ tally.new }
+    ensures tallied { (check : Check) → IsExact check → H.tells_input → result ≡ Ok true → counted_at check store.old.bounds steps (place_at served.old (work_of store.old) reader.old (H.now host.old)) tally.old
+        ≡ counted_at check store.old.bounds steps (place_at served.new (work_of store.new) reader.new (H.now host.new)) tally.new }
+    ensures tallied_whole { (check : Check) → IsExact check → H.tells_input → result ≡ Ok false → counted_at check store.old.bounds steps (place_at served.old (work_of store.old) reader.old (H.now host.old)) tally.old ≡ tally.new }
 
     ensures input_fault { IsErrOf result SessionStop.Input → RoseByOne (H.now host.old).input_faults (H.now host.new).input_faults }
     ensures store_fault { IsErrOf result SessionStop.StoreFault → RoseByOne (H.now host.old).store_faults (H.now host.new).store_faults }
@@ -111,37 +115,38 @@ fn turn<H: Host>(
     ensures holds { H.tells_image → OnOk result (Holds (H.now host.new).image (work_of store.new)) }
     ensures bounds { store.new.bounds ≡ store.old.bounds }
     ensures sound { OnOk result (IsTrue store.new.sound) }
+    ensures up_to_date { OnOk result (IsUpToDate checker.new store.new.kept.units) }
     ensures chosen { (H.now host.new).chosen ≡ (H.now host.old).chosen }
     ensures none_fell { NoneFell (H.now host.old) (H.now host.new) }
 
     // What it asked for.
-    ensures asked { H.tells_said → H.tells_input
-        → Asked (AsksInput store.old.bounds steps (place_at served.old (work_of store.old) reader.old (H.now host.old))) (H.now host.old).asked (H.now host.new).asked }
+    ensures asked { (check : Check) → IsExact check → H.tells_said → H.tells_input
+        → Asked (AsksInput check store.old.bounds steps (place_at served.old (work_of store.old) reader.old (H.now host.old))) (H.now host.old).asked (H.now host.new).asked }
     ensures asks_rise { H.tells_said → AskedRising (next_ask reader.old.taken reader.old.ended) (next_ask reader.new.taken reader.new.ended) (H.now host.old).asked (H.now host.new).asked }
     ensures stays_ended { reader.old.ended ≡ true → reader.new.ended ≡ true }
     ensures ended_asks { reader.old.ended ≡ true → (H.now host.new).asked ≡ (H.now host.old).asked }
     ensures ended_ends { reader.old.ended ≡ true → (IsErrOf result SessionStop.Input ⊎ IsErrOf result SessionStop.Long) → ⊥ }
-    ensures wants { H.tells_input → (IsErrOf result SessionStop.Input ⊎ IsErrOf result SessionStop.Long)
-        → WantsInput store.old.bounds steps (place_at served.old (work_of store.old) reader.old (H.now host.old)) (H.now host.new).taken }
+    ensures wants { (check : Check) → IsExact check → H.tells_input → (IsErrOf result SessionStop.Input ⊎ IsErrOf result SessionStop.Long)
+        → WantsInput check store.old.bounds steps (place_at served.old (work_of store.old) reader.old (H.now host.old)) (H.now host.new).taken }
 
     // What stands where it stops.
     ensures idle_said { (IsErrOf result SessionStop.Memory ⊎ IsErrOf result SessionStop.Input ⊎ IsErrOf result SessionStop.Long) → (H.now host.new).said ≡ (H.now host.old).said }
     ensures idle { H.tells_image → IsQuiet H.clock H.stopped host.old (H.now host.old).image
         → (IsErrOf result SessionStop.Memory ⊎ IsErrOf result SessionStop.Input ⊎ IsErrOf result SessionStop.Long)
         → (c s : List ℕ) → Now H.clock H.stopped host.new c s → OpensTo c (work_of store.old) }
-    ensures broken { H.tells_image → H.tells_said → H.tells_input → IsQuiet H.clock H.stopped host.old (H.now host.old).image → IsErrOf result SessionStop.StoreFault
-        → IsBroken OpensTo (works (work_of store.old) (session_at store.old.bounds steps (place_at served.old (work_of store.old) reader.old (H.now host.old))))
-        (replies (session_at store.old.bounds steps (place_at served.old (work_of store.old) reader.old (H.now host.old))))
+    ensures broken { (check : Check) → IsExact check → H.tells_image → H.tells_said → H.tells_input → IsQuiet H.clock H.stopped host.old (H.now host.old).image → IsErrOf result SessionStop.StoreFault
+        → IsBroken OpensTo (works (work_of store.old) (session_at check store.old.bounds steps (place_at served.old (work_of store.old) reader.old (H.now host.old))))
+        (replies (session_at check store.old.bounds steps (place_at served.old (work_of store.old) reader.old (H.now host.old))))
         (H.now host.old).said (H.now host.new).said (Now H.clock H.stopped host.new) }
-    ensures cut_short { H.tells_image → H.tells_said → H.tells_input → IsQuiet H.clock H.stopped host.old (H.now host.old).image → IsErrOf result SessionStop.SinkFault
-        → IsCutShort OpensTo (works (work_of store.old) (session_at store.old.bounds steps (place_at served.old (work_of store.old) reader.old (H.now host.old))))
-        (replies (session_at store.old.bounds steps (place_at served.old (work_of store.old) reader.old (H.now host.old))))
+    ensures cut_short { (check : Check) → IsExact check → H.tells_image → H.tells_said → H.tells_input → IsQuiet H.clock H.stopped host.old (H.now host.old).image → IsErrOf result SessionStop.SinkFault
+        → IsCutShort OpensTo (works (work_of store.old) (session_at check store.old.bounds steps (place_at served.old (work_of store.old) reader.old (H.now host.old))))
+        (replies (session_at check store.old.bounds steps (place_at served.old (work_of store.old) reader.old (H.now host.old))))
         (H.now host.old).said (H.now host.new).said (Now H.clock H.stopped host.new) }
 
     // At every moment of the call, and at its end.
-    ensures stops { H.tells_image → H.tells_said → H.tells_input → IsQuiet H.clock H.stopped host.old (H.now host.old).image
+    ensures stops { (check : Check) → IsExact check → H.tells_image → H.tells_said → H.tells_input → IsQuiet H.clock H.stopped host.old (H.now host.old).image
         → Leaves H.clock H.stopped host.old host.new (IsSessionPoint (work_of store.old)
-        (session_at store.old.bounds steps (place_at served.old (work_of store.old) reader.old (H.now host.old))) (H.now host.old).said) }
+        (session_at check store.old.bounds steps (place_at served.old (work_of store.old) reader.old (H.now host.old))) (H.now host.old).said) }
     ensures quiet { H.tells_image → IsQuiet H.clock H.stopped host.old (H.now host.old).image
         → OnOk result (IsQuiet H.clock H.stopped host.new (H.now host.new).image) }
 {
@@ -151,7 +156,9 @@ fn turn<H: Host>(
         Err(stop) => return Err(stop_of_line(stop)),
     };
     *served += 1;
-    match serve_item(alloc, store, host, reader, &item, tally, *served, steps) {
+    match serve_item(
+        alloc, store, checker, host, reader, &item, tally, *served, steps,
+    ) {
         Ok(done) => Ok(!done.quit),
         Err(stop) => Err(stop_of_item(stop)),
     }
@@ -172,17 +179,17 @@ pub(crate) fn serve_all<H: Host>(
     requires same_bound { bound ≡ store.old.bounds.input }
     requires none_counted { tally.old ≡ nothing_counted }
 
-    ensures said { H.tells_said → H.tells_input → OnOk result ((H.now host.new).said ≡ (H.now host.old).said
-        ++ output (session_of store.old.bounds steps (work_of store.old) (H.now host.old).left)) }
-    ensures counted { H.tells_input → OnOk result (tally.new ≡ counted (replies (session_of store.old.bounds steps (work_of store.old) (H.now host.old).left))) }
-    ensures work { H.tells_input → OnOk result (work_of store.new ≡ last_work (work_of store.old) (session_of store.old.bounds steps (work_of store.old) (H.now host.old).left)) }
+    ensures said { (check : Check) → IsExact check → H.tells_said → H.tells_input → OnOk result ((H.now host.new).said ≡ (H.now host.old).said
+        ++ output (session_of check store.old.bounds steps (work_of store.old) (H.now host.old).left)) }
+    ensures counted { (check : Check) → IsExact check → H.tells_input → OnOk result (tally.new ≡ counted (replies (session_of check store.old.bounds steps (work_of store.old) (H.now host.old).left))) }
+    ensures work { (check : Check) → IsExact check → H.tells_input → OnOk result (work_of store.new ≡ last_work (work_of store.old) (session_of check store.old.bounds steps (work_of store.old) (H.now host.old).left)) }
     ensures holds { H.tells_image → OnOk result (Holds (H.now host.new).image (work_of store.new)) }
-    ensures ended { H.tells_input → OnOk result (HasEnded (session_of store.old.bounds steps (work_of store.old) (H.now host.old).left).ending store.old.bounds.input (H.now host.old) (H.now host.new)) }
+    ensures ended { (check : Check) → IsExact check → H.tells_input → OnOk result (HasEnded (session_of check store.old.bounds steps (work_of store.old) (H.now host.old).left).ending store.old.bounds.input (H.now host.old) (H.now host.new)) }
 
     ensures long { IsErrOf result SessionStop.Long → (H.now host.new).taken ≡ bound }
     ensures most_taken { (H.now host.new).taken ≤ bound }
     ensures long_input { H.tells_input → IsErrOf result SessionStop.Long → bound ≤ length (H.now host.old).left }
-    ensures waits { H.tells_input → IsErrOf result SessionStop.Long → (session_of store.old.bounds steps (work_of store.old) (H.now host.old).left).ending ≡ waiting }
+    ensures waits { (check : Check) → IsExact check → H.tells_input → IsErrOf result SessionStop.Long → (session_of check store.old.bounds steps (work_of store.old) (H.now host.old).left).ending ≡ waiting }
     ensures input_fault { IsErrOf result SessionStop.Input → RoseByOne (H.now host.old).input_faults (H.now host.new).input_faults }
     ensures store_fault { IsErrOf result SessionStop.StoreFault → RoseByOne (H.now host.old).store_faults (H.now host.new).store_faults }
     ensures sink_fault { IsErrOf result SessionStop.SinkFault → RoseByOne (H.now host.old).sink_faults (H.now host.new).sink_faults }
@@ -195,30 +202,40 @@ pub(crate) fn serve_all<H: Host>(
     ensures none_fell { NoneFell (H.now host.old) (H.now host.new) }
 
     // What was asked for, and what stands where the session stops.
-    ensures asked { H.tells_said → H.tells_input → Asked (AsksSettled store.old.bounds steps (work_of store.old) (H.now host.old).left (length (H.now host.old).said))
+    ensures asked { (check : Check) → IsExact check → H.tells_said → H.tells_input → Asked (AsksSettled check store.old.bounds steps (work_of store.old) (H.now host.old).left (length (H.now host.old).said))
         (H.now host.old).asked (H.now host.new).asked }
     ensures asks_rise { H.tells_said → AskedRising 0 (suc (H.now host.new).taken) (H.now host.old).asked (H.now host.new).asked }
-    ensures waiting { H.tells_image → H.tells_said → H.tells_input → IsQuiet H.clock H.stopped host.old (H.now host.old).image
+    ensures waiting { (check : Check) → IsExact check → H.tells_image → H.tells_said → H.tells_input → IsQuiet H.clock H.stopped host.old (H.now host.old).image
         → (IsErrOf result SessionStop.Input ⊎ IsErrOf result SessionStop.Long)
-        → IsWaiting store.old.bounds steps (work_of store.old) (H.now host.old).left (H.now host.old).said (H.now host.new) (Now H.clock H.stopped host.new) }
-    ensures between { H.tells_image → H.tells_said → H.tells_input → IsQuiet H.clock H.stopped host.old (H.now host.old).image → IsErrOf result SessionStop.Memory
-        → IsBetween OpensTo (works (work_of store.old) (session_of store.old.bounds steps (work_of store.old) (H.now host.old).left)) (replies (session_of store.old.bounds steps (work_of store.old) (H.now host.old).left))
+        → IsWaiting check store.old.bounds steps (work_of store.old) (H.now host.old).left (H.now host.old).said (H.now host.new) (Now H.clock H.stopped host.new) }
+    ensures between { (check : Check) → IsExact check → H.tells_image → H.tells_said → H.tells_input → IsQuiet H.clock H.stopped host.old (H.now host.old).image → IsErrOf result SessionStop.Memory
+        → IsBetween OpensTo (works (work_of store.old) (session_of check store.old.bounds steps (work_of store.old) (H.now host.old).left)) (replies (session_of check store.old.bounds steps (work_of store.old) (H.now host.old).left))
         (H.now host.old).said (H.now host.new).said (Now H.clock H.stopped host.new) }
-    ensures broken { H.tells_image → H.tells_said → H.tells_input → IsQuiet H.clock H.stopped host.old (H.now host.old).image → IsErrOf result SessionStop.StoreFault
-        → IsBroken OpensTo (works (work_of store.old) (session_of store.old.bounds steps (work_of store.old) (H.now host.old).left)) (replies (session_of store.old.bounds steps (work_of store.old) (H.now host.old).left))
+    ensures broken { (check : Check) → IsExact check → H.tells_image → H.tells_said → H.tells_input → IsQuiet H.clock H.stopped host.old (H.now host.old).image → IsErrOf result SessionStop.StoreFault
+        → IsBroken OpensTo (works (work_of store.old) (session_of check store.old.bounds steps (work_of store.old) (H.now host.old).left)) (replies (session_of check store.old.bounds steps (work_of store.old) (H.now host.old).left))
         (H.now host.old).said (H.now host.new).said (Now H.clock H.stopped host.new) }
-    ensures cut_short { H.tells_image → H.tells_said → H.tells_input → IsQuiet H.clock H.stopped host.old (H.now host.old).image → IsErrOf result SessionStop.SinkFault
-        → IsCutShort OpensTo (works (work_of store.old) (session_of store.old.bounds steps (work_of store.old) (H.now host.old).left)) (replies (session_of store.old.bounds steps (work_of store.old) (H.now host.old).left))
+    ensures cut_short { (check : Check) → IsExact check → H.tells_image → H.tells_said → H.tells_input → IsQuiet H.clock H.stopped host.old (H.now host.old).image → IsErrOf result SessionStop.SinkFault
+        → IsCutShort OpensTo (works (work_of store.old) (session_of check store.old.bounds steps (work_of store.old) (H.now host.old).left)) (replies (session_of check store.old.bounds steps (work_of store.old) (H.now host.old).left))
         (H.now host.old).said (H.now host.new).said (Now H.clock H.stopped host.new) }
 
     // At every moment of the session, and at its end.
-    ensures stops { H.tells_image → H.tells_said → H.tells_input → IsQuiet H.clock H.stopped host.old (H.now host.old).image
-        → Leaves H.clock H.stopped host.old host.new (IsSessionPoint (work_of store.old) (session_of store.old.bounds steps (work_of store.old) (H.now host.old).left) (H.now host.old).said) }
+    ensures stops { (check : Check) → IsExact check → H.tells_image → H.tells_said → H.tells_input → IsQuiet H.clock H.stopped host.old (H.now host.old).image
+        → Leaves H.clock H.stopped host.old host.new (IsSessionPoint (work_of store.old) (session_of check store.old.bounds steps (work_of store.old) (H.now host.old).left) (H.now host.old).said) }
     ensures quiet { H.tells_image → IsQuiet H.clock H.stopped host.old (H.now host.old).image
         → OnOk result (IsQuiet H.clock H.stopped host.new (H.now host.new).image) }
 {
+    let mut checker = None;
     let mut reader = Reader::new(alloc, bound);
     let mut served = 0;
-    'items: while turn(alloc, store, host, &mut reader, tally, &mut served, steps)? {}
+    'items: while turn(
+        alloc,
+        store,
+        &mut checker,
+        host,
+        &mut reader,
+        tally,
+        &mut served,
+        steps,
+    )? {}
     Ok(())
 }

@@ -86,7 +86,7 @@ struct Session {
     size: usize,
 }
 
-const SESSIONS: [Session; 19] = [
+const SESSIONS: [Session; 20] = [
     Session {
         name: "no lines",
         input: "",
@@ -194,6 +194,12 @@ const SESSIONS: [Session; 19] = [
         input: "PUT 41 IN x\n==\n=x\n=y\n::\n",
         said: "[1] ok\nx\n[2] ok\n41\n[3] ok\n[4] fault line 1: NoTarget\n[5] ok\n",
         size: 101,
+    },
+    Session {
+        name: "items that no types fit change nothing",
+        input: "PUT {} IN t\nINSERT 1 IN t\nINSERT \"a\" IN t\nHOW TO RETURN f: RETURN 1 + \"a\"\nHOW TO RETURN f: RETURN 1 + 2\nWRITE t, f /\n",
+        said: "[1] ok\n[2] ok\n[3] fault line 1: TypeFault\n[4] fault line 1: TypeFault\n[5] unit RETURN f\n{1} 3\n[6] ok\n",
+        size: 185,
     },
     Session {
         name: "the largest number, and one more",
@@ -486,7 +492,7 @@ const FAILING: [Failing; 8] = [
     },
     Failing {
         name: "a read within an item",
-        input: "PUT 3 IN x\nREAD x RAW\n",
+        input: "PUT 3 IN x\nREAD s RAW\n",
         kind: CallKind::Read,
         n: 2,
         status: INPUT_FAULT,

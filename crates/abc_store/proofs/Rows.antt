@@ -21,7 +21,8 @@ use Rattle.abc_record.specs.Kept.{IsKept}
 use Rattle.abc_store.specs.Workspace.{Workspace, empty, changed_by, unit_of_lines, with_routine, checkpoint_of}
 use Rattle.abc_store.specs.Opening.{LeadsTo, OpensTo}
 use Rattle.abc_store.specs.Commit.{Work, store_full, stored}
-use Rattle.abc_store.proofs.Images.{opens_by}
+use Rattle.abc_store.proofs.Images.{come_to, opens_by}
+use Rattle.abc_store.proofs.Typed.{numbers_typed}
 
 -- `PUT n IN x`, `DELETE x`, and the workspace in which x is n
 abbrev pub put : ℕ → List Change
@@ -106,7 +107,8 @@ one_leads = record { changes = put 1; spells = record { kept = (omega arith, (pu
 one_opens : OpensTo (take 64 fresh_image ++ 1 ∷ behind_gate (spelled (put 1))) (x_is 1)
 unfolding opened read_image settled_image follow live_slot spelled_change spelled_text spelled_number in_four in_sixteen in_eight
 one_opens =
-    opens_by (take 64 fresh_image ++ 1 ∷ behind_gate (spelled (put 1))) (record { layout = first_at 101 100; payloads = spelled (put 1) ∷ [] }) (Ok (x_is 1)) refl (inl (x_is 1, one_leads, refl))
+    opens_by (take 64 fresh_image ++ 1 ∷ behind_gate (spelled (put 1))) (record { layout = first_at 101 100; payloads = spelled (put 1) ∷ [] }) (Ok (x_is 1)) refl
+    (come_to 64 (spelled (put 1) ∷ []) (x_is 1) (inl (x_is 1, one_leads, refl)) (numbers_typed (x_is 1).targets (refl, tt)))
 
 -- ---- units
 

@@ -9,6 +9,7 @@ use Rattle.std.specs.Ordering.{is_eq, match_ordering}
 use Rattle.std.proofs.lemmas.List.Concat.{flat_map-cons}
 use Rattle.abc_num.specs.Text.{text_cmp}
 use Rattle.abc_value.specs.Tree.{Tree}
+use Rattle.abc_value.specs.Regular.{IsRegular}
 use Rattle.abc_value.proofs.Making.{regular_sizes}
 use Rattle.abc_frames.specs.declared.targets.TargetChange.{TargetChange}
 use Rattle.abc_frames.specs.Maps.{Targets, AreRising, AreRegular, with_value, without, is_same, told, changes_of, applied}
@@ -76,6 +77,26 @@ left_named false e es later f a l = (f, l)
 pub named_without : (k : List ℕ) (ts : Targets) → AreNamed ts → AreNamed (without k ts)
 named_without k [] a = tt
 named_without k (e ∷ es) a = left_named (is_eq (text_cmp k e.0)) e es (without k es) a.0 a.1 (named_without k es a.1)
+
+-- ---- values stay regular
+
+set_regular : (o : Ordering) (e : List ℕ × Tree) (es later : Targets) (k : List ℕ) (v : Tree) → IsRegular e.1 → AreRegular es → IsRegular v → AreRegular later
+    → AreRegular (match_ordering o ((k, v) ∷ e ∷ es) ((e.0, v) ∷ es) (e ∷ later))
+set_regular Less e es later k v f a p l = (p, (f, a))
+set_regular Equal e es later k v f a p l = (p, a)
+set_regular Greater e es later k v f a p l = (f, l)
+
+pub regular_with : (k : List ℕ) (v : Tree) (ts : Targets) → IsRegular v → AreRegular ts → AreRegular (with_value k v ts)
+regular_with k v [] p a = (p, tt)
+regular_with k v (e ∷ es) p a = set_regular (text_cmp k e.0) e es (with_value k v es) k v a.0 a.1 p (regular_with k v es p a.1)
+
+left_regular : (b : Bool) (e : List ℕ × Tree) (es later : Targets) → IsRegular e.1 → AreRegular es → AreRegular later → AreRegular (cond b es (e ∷ later))
+left_regular true e es later f a l = a
+left_regular false e es later f a l = (f, l)
+
+pub regular_without : (k : List ℕ) (ts : Targets) → AreRegular ts → AreRegular (without k ts)
+regular_without k [] a = tt
+regular_without k (e ∷ es) a = left_regular (is_eq (text_cmp k e.0)) e es (without k es) a.0 a.1 (regular_without k es a.1)
 
 -- ---- all targets are spelled
 

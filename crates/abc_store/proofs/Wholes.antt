@@ -18,14 +18,15 @@ use Rattle.abc_store.specs.Opening.{LeadsTo}
 use Rattle.abc_store.specs.inner.Steps.{IsSpellable, IsCheckpoint}
 use Rattle.abc_store.specs.inner.Later.{are_of_targets}
 use Rattle.abc_store.proofs.OwnLines.{unit_has_lines}
-use Rattle.abc_store.proofs.Targets.{named_with, named_without, all_set, each_kept, so_many, all_short}
+use Rattle.abc_store.proofs.Targets.{named_with, named_without, regular_with, regular_without, all_set, each_kept, so_many, all_short}
 use Rattle.abc_store.proofs.Units.{kept_with, kept_without, all_put, units_short, each_unit_kept, so_many_units}
 
 -- ---- changes leave what changes can spell
 
--- names and units that changes can spell
+-- targets and units that changes can spell
 pub record IsSound (kept : Workspace) : Type 0 where
   pub named : AreNamed kept.targets
+  pub regular : AreRegular kept.targets
   pub units : AreKeptUnits kept.units
 
 sound_set : (lines : List Line) (found : Option Routine) (ws later : Workspace) → unit_of_lines lines ≡ found → AreKeptLines lines → IsSound ws → option_map (with_routine ws) found ≡ Some later → IsSound later
@@ -34,19 +35,19 @@ sound_set lines (Some unit) ws later is kept sound made =
     let same : with_routine ws unit ≡ later = cc in
     let own : unit.lines ≡ lines = unit_has_lines lines unit is in
     let here : IsKeptUnit unit = record { lines = subst AreKeptLines (sym own) kept; spelled = ap unit_of_lines own ∙ is } in
-    subst IsSound same (record { named = sound.named; units = kept_with unit ws.units here sound.units })
+    subst IsSound same (record { named = sound.named; regular = sound.regular; units = kept_with unit ws.units here sound.units })
 
 pub sound_after : (c : Change) (ws later : Workspace) → IsKept c → IsSound ws → changed c ws ≡ Some later → IsSound later
 sound_after (SetTarget name value) ws later kept sound made =
     let same : with_targets ws (with_value name value ws.targets) ≡ later = cc in
-    subst IsSound same (record { named = named_with name value ws.targets kept.0 sound.named; units = sound.units })
+    subst IsSound same (record { named = named_with name value ws.targets kept.0 sound.named; regular = regular_with name value ws.targets kept.1 sound.regular; units = sound.units })
 sound_after (DropTarget name) ws later kept sound made =
     let same : with_targets ws (without name ws.targets) ≡ later = cc in
-    subst IsSound same (record { named = named_without name ws.targets sound.named; units = sound.units })
+    subst IsSound same (record { named = named_without name ws.targets sound.named; regular = regular_without name ws.targets sound.regular; units = sound.units })
 sound_after (SetUnit lines) ws later kept sound made = sound_set lines (unit_of_lines lines) ws later refl kept sound made
 sound_after (DropUnit text) ws later kept sound made =
     let same : record { targets = ws.targets; units = without_named text ws.units } ≡ later = cc in
-    subst IsSound same (record { named = sound.named; units = kept_without text ws.units sound.units })
+    subst IsSound same (record { named = sound.named; regular = sound.regular; units = kept_without text ws.units sound.units })
 
 sound_behind : (c : Change) (cs : List Change) (ws later : Workspace) (first : Option Workspace) → changed c ws ≡ first
     → ((next : Workspace) → changed c ws ≡ Some next → changed_by cs next ≡ Some later → IsSound later) → option_and_then (changed_by cs) first ≡ Some later → IsSound later
@@ -62,8 +63,8 @@ pub spellable_after : (cs : List Change) (ws new : Workspace) → AreKept cs →
 spellable_after cs ws new kept spellable made l =
     let both : Some l.0 ≡ Some new = sym l.1 ∙ made in
     let same : l.0 ≡ new = cc in
-    let sound = sound_after_all cs ws new kept.1 (record { named = spellable.named; units = spellable.units }) made in
-    record { named = sound.named; units = sound.units; limits = subst IsWithinLimits same l.2 }
+    let sound = sound_after_all cs ws new kept.1 (record { named = spellable.named; regular = spellable.regular; units = spellable.units }) made in
+    record { named = sound.named; regular = sound.regular; units = sound.units; limits = subst IsWithinLimits same l.2 }
 
 -- ---- changes of targets leave the units
 

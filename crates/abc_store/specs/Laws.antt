@@ -1,5 +1,5 @@
 -- What holds of images and workspaces.
-use Rattle.std.specs.Prelude.{◌≡◌, ℕ, List, Some, Result}
+use Rattle.std.specs.Prelude.{◌≡◌, ℕ, true, List, Some, Result}
 use Rattle.abc_outside.specs.Stop.{Extends}
 use Rattle.abc_journal.specs.Image.{settled_image}
 use Rattle.abc_frames.specs.Maps.{AreRising, AreRegular}
@@ -8,7 +8,9 @@ use Rattle.abc_num.specs.declared.lines.Line.{Line}
 use Rattle.abc_tree.specs.declared.commands.Item.TheVariants as item
 use Rattle.abc_tree.specs.declared.commands.Unit.{Unit as Routine}
 use Rattle.abc_parse.specs.Readings.{item_of}
-use Rattle.abc_store.specs.Workspace.{Workspace, empty, changed_by, changes_between, checkpoint_of, IsWithinLimits, AreNamed, AreKeptUnits, unit_of_lines}
+use Rattle.abc_tree.specs.RegularItems.{is_regular_unit}
+use Rattle.abc_meaning.specs.Regular.{IsNumbered}
+use Rattle.abc_store.specs.Workspace.{Workspace, empty, changed_by, changes_between, checkpoint_of, without_named, IsWithinLimits, IsWellTyped, AreNamed, IsKeptUnit, AreKeptUnits, unit_of_lines}
 use Rattle.abc_store.specs.Opening.{LeadsTo, Opens, OpensTo}
 use Rattle.abc_store.specs.Commit.{Work, Holds}
 
@@ -37,3 +39,11 @@ ChangesLeadThere = (before after : Workspace) → AreRising before.targets → A
 -- what an item that is a unit spells is what its lines put, whatever targets there are
 abbrev pub UnitsAreSet : Type 0
 UnitsAreSet = (lines : List Line) (targets : List (List ℕ)) (unit : Routine) → item_of lines targets ≡ Some (item.Unit unit) → (unit_of_lines lines ≡ Some unit) × (unit.lines ≡ lines)
+
+-- a unit that is kept is regular, and the numbers that are written in it are numbers
+abbrev pub KeptUnitsAreRegular : Type 0
+KeptUnitsAreRegular = (unit : Routine) → IsKeptUnit unit → (is_regular_unit unit ≡ true) × IsNumbered unit
+
+-- without a unit types fit what they fitted with it
+abbrev pub DroppingStaysTyped : Type 0
+DroppingStaysTyped = (kept : Workspace) (template : List ℕ) → AreInOrder kept.units → IsWellTyped kept → IsWellTyped (record { targets = kept.targets; units = without_named template kept.units })

@@ -14,6 +14,8 @@ use Rattle.abc_tree.specs.Units.{with_unit}
 use Rattle.abc_tree.specs.declared.commands.Item.{Item}
 use Rattle.abc_tree.specs.declared.commands.Item.TheVariants as item
 use Rattle.abc_tree.specs.declared.commands.Unit.{Unit as Routine}
+use Rattle.abc_ground.specs.Groups.{whole}
+use Rattle.abc_ground.specs.Typable.{IsTypable}
 use Rattle.abc_parse.specs.Readings.{item_of}
 use Rattle.abc_record.specs.declared.change.Change.{Change}
 use Rattle.abc_record.specs.declared.change.Change.TheVariants.{SetTarget, DropTarget, SetUnit, DropUnit}
@@ -71,6 +73,10 @@ changed_by (change ∷ changes) kept = option_and_then (changed_by changes) (cha
 pub record IsWithinLimits (kept : Workspace) : Type 0 where
   pub targets : length kept.targets ≤ MOST_TARGETS
   pub units : length kept.units ≤ MOST_UNITS
+
+-- types fit it: its targets have types under which all its units do
+unfoldable pub IsWellTyped : Workspace → Type 0
+IsWellTyped kept = IsTypable kept.targets (whole kept.units)
 
 -- each target has a name that changes can spell
 abbrev pub AreNamed : Targets → Type 0

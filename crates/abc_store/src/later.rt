@@ -3,7 +3,7 @@ ghost use Rattle.std.specs.Prelude.{◌≡◌, true, not, Some, IfOk, OnErr};
 ghost use Rattle.abc_record.specs.Kept.{AreKept};
 ghost use Rattle.abc_store.specs.Workspace.{Workspace, changed_by};
 ghost use Rattle.abc_store.specs.inner.Steps.{IsSpellable, IsCheckpoint};
-ghost use Rattle.abc_store.specs.inner.Later.{later_of, is_of_target, are_of_targets as are_all_of_targets};
+ghost use Rattle.abc_store.specs.inner.Later.{later_of, Stands, is_of_target, are_of_targets as are_all_of_targets};
 
 use crate::changing::make_all;
 use crate::contents::Contents;
@@ -98,7 +98,7 @@ pub(crate) fn made_at_once(
     requires kept { AreKept changes.items }
     requires later { (later : Workspace) × (changed_by changes.items contents.old ≡ Some later) }
     ensures later { IfOk result (λ later. changed_by changes.items contents.old ≡ Some (later_of contents.new later)) }
-    ensures standing { IfOk result (λ later. IsSpellable (later_of contents.new later) → IsSpellable contents.new) }
+    ensures standing { IfOk result (λ later. Stands contents.old contents.new later) }
     ensures err { OnErr result (contents.new ≡ contents.old) }
 {
     if changes.len() > 1 {

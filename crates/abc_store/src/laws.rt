@@ -1,7 +1,8 @@
 //! Laws of images and workspaces, for the crates above.
-ghost use Rattle.abc_store.specs.Laws.{OpensToOne, LongerOpensToo, SettledOpensToo, CheckpointsHoldAll, ChangesLeadThere, UnitsAreSet};
+ghost use Rattle.abc_store.specs.Laws.{OpensToOne, LongerOpensToo, SettledOpensToo, CheckpointsHoldAll, ChangesLeadThere, UnitsAreSet, KeptUnitsAreRegular, DroppingStaysTyped};
 
-use abc_parse::{computed_item, unit_alone};
+use abc_fewer::kept_units_stay_typable;
+use abc_parse::{computed_item, numbered_items, regular_items, unit_alone};
 use abc_record::laws::spellings_are_told_apart;
 
 /// An image opens to one workspace or is wrong at one place, and what stands past its end means nothing. The image that a short one
@@ -26,4 +27,19 @@ pub fn units_are_set()
 {
     computed_item();
     unit_alone();
+}
+
+/// A unit that is kept is regular, and the numbers that are written in it are numbers.
+pub fn kept_units_are_regular()
+    ensures { KeptUnitsAreRegular }
+{
+    regular_items();
+    numbered_items();
+}
+
+/// What types fit they fit without any of its units too.
+pub fn dropping_stays_typed()
+    ensures { DroppingStaysTyped }
+{
+    kept_units_stay_typable();
 }

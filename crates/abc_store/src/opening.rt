@@ -1,22 +1,63 @@
-//! What the records of an image make.
-ghost use Rattle.std.specs.Prelude.{◌≡◌, ◌+◌, ◌-◌, ◌^◌, ℕ, min, true, false, Ok, Err, IfOk, IsErrOf};
+//! What the records of an image make, and whether types fit it.
+ghost use Rattle.std.specs.Prelude.{◌≡◌, ◌↔◌, ◌+◌, ◌-◌, ◌^◌, ℕ, min, true, false, Ok, Err, IfOk, IsErrOf, IsTrue};
 ghost use Rattle.abc_journal.specs.Journal.{IfNotAStore};
-ghost use Rattle.abc_store.specs.Workspace.{Workspace, empty};
-ghost use Rattle.abc_store.specs.Opening.{LeadsTo, LeadsNowhere, Make};
+ghost use Rattle.abc_store.specs.Workspace.{Workspace, empty, AreKeptUnits, IsWellTyped};
+ghost use Rattle.abc_store.specs.Opening.{LeadsTo, LeadsNowhere, Make, ComeTo};
+ghost use Rattle.abc_store.specs.inner.Steps.{IsSpellable};
 
 use crate::changing::make_all;
 use crate::contents::Contents;
+use abc_check::Checker;
+use abc_frames::Targets;
 use abc_journal::BeginFault;
 use abc_journal::format::RECORD_EXTRA;
 use abc_num::{OutOfMemory, Text};
+use abc_parse::regular_templates;
 use abc_record::{RecordFault, read_changes};
+use abc_tree::{Units, one_template};
 use std::alloc::Global;
+
+/// The contents after the records of these payloads, where types fit them. The first record has its gate at `start`.
+///
+/// Errors: `NotAStore` as [`replay`] has it, or at `start` where no types fit what the records make. `Memory`.
+pub(crate) fn opened(alloc: Global, start: u64, payloads: &[Text]) -> Result<Contents, BeginFault>
+    ensures come { IfOk result (λ contents. ComeTo start payloads.now (Ok contents)) }
+    ensures spellable { IfOk result IsSpellable }
+    ensures typed { IfOk result IsWellTyped }
+    ensures refused { IfNotAStore result (λ at. (gate : ℕ) × ComeTo start payloads.now (Err gate) × (at ≡ min gate (2 ^ 64 - 1))) }
+    ensures no_fault { IsErrOf result BeginFault.StoreFault → ⊥ }
+{
+    let contents = match replay(alloc, start, payloads) {
+        Ok(contents) => contents,
+        Err(fault) => return Err(fault),
+    };
+    match are_typed(alloc, contents.targets(), contents.units()) {
+        Ok(true) => Ok(contents),
+        Ok(false) => Err(BeginFault::NotAStore { at: start }),
+        Err(OutOfMemory) => Err(BeginFault::Memory),
+    }
+}
+
+/// Whether types fit these targets and units.
+pub(crate) fn are_typed(
+    alloc: Global,
+    targets: &Targets,
+    units: &Units,
+) -> Result<bool, OutOfMemory>
+    requires kept { AreKeptUnits units.now }
+    ensures { IfOk result (λ yes. IsTrue yes ↔ IsWellTyped (record { targets = targets.now; units = units.now })) }
+{
+    regular_templates();
+    one_template();
+    let mut checker = Checker::over(alloc, units)?;
+    checker.fits(targets)
+}
 
 /// The contents after the records of these payloads, the first of which has its gate at `start`. Each change is made once.
 ///
 /// Errors: `NotAStore` with the place of the gate of the first record that spells no changes which can be made, or after which there
 /// are too many targets or units; a place past 2^64 - 1, which no image has, is told as that. `Memory`.
-pub(crate) fn replay(alloc: Global, start: u64, payloads: &[Text]) -> Result<Contents, BeginFault>
+fn replay(alloc: Global, start: u64, payloads: &[Text]) -> Result<Contents, BeginFault>
     ensures made { IfOk result (λ contents. Make start empty payloads.now (Ok contents)) }
     ensures refused { IfNotAStore result (λ at. (gate : ℕ) × Make start empty payloads.now (Err gate) × (at ≡ min gate (2 ^ 64 - 1))) }
     ensures no_fault { IsErrOf result BeginFault.StoreFault → ⊥ }

@@ -2,7 +2,7 @@
 ghost use Rattle.std.specs.Prelude.{◌≡◌, ◌≤◌, ◌+◌, ◌<◌, ◌^◌, false, length, Some, IfOk, OnErr, option_map};
 ghost use Rattle.abc_record.specs.Spelling.{spelled};
 ghost use Rattle.abc_record.specs.Kept.{AreKept};
-ghost use Rattle.abc_store.specs.Workspace.{Workspace, changed_by, IsWithinLimits};
+ghost use Rattle.abc_store.specs.Workspace.{Workspace, changed_by, IsWithinLimits, IsWellTyped};
 ghost use Rattle.abc_store.specs.inner.Steps.{IsSpellable, IsPlan, fits};
 ghost use Rattle.abc_store.specs.inner.Later.{later_of};
 
@@ -41,14 +41,16 @@ pub(crate) fn prepare(
     requires kept { AreKept changes.items }
     requires fits { length (spelled changes.items) < 2 ^ 64 }
     requires spellable { IsSpellable contents.old }
-    requires later { (later : Workspace) × (changed_by changes.items contents.old ≡ Some later) × IsWithinLimits later }
+    requires typed { IsWellTyped contents.old }
+    requires later { (later : Workspace) × (changed_by changes.items contents.old ≡ Some later) × IsWithinLimits later × IsWellTyped later }
     requires bound { journal.old.bounds.checkpoint ≡ checkpoint }
 
     ensures plan { IfOk result (λ plan. IsPlan journal.old.bounds journal.old.layout plan.payload.items (option_map (λ p. p.items) plan.before) (option_map (λ p. p.items) plan.after)
         contents.old (later_of contents.new plan.later)) }
     ensures later { IfOk result (λ plan. changed_by changes.items contents.old ≡ Some (later_of contents.new plan.later)) }
     ensures spellable { IfOk result (λ plan. IsSpellable (later_of contents.new plan.later)) }
-    ensures standing { IfOk result (λ _. IsSpellable contents.new) }
+    ensures typed { IfOk result (λ plan. IsWellTyped (later_of contents.new plan.later)) }
+    ensures standing { IfOk result (λ _. IsSpellable contents.new × IsWellTyped contents.new) }
     ensures payload { IfOk result (λ plan. plan.payload.items ≡ spelled changes.items) }
     ensures reserved { IfOk result (λ plan. length plan.payload.items + RECORD_EXTRA ≤ journal.new.reserved) }
     ensures unfit { IfOk result (λ plan. fits journal.old.bounds journal.old.layout (length plan.payload.items) ≡ false → contents.new ≡ contents.old) }

@@ -4,7 +4,7 @@ ghost use Rattle.abc_outside.specs.Outside.{RoseByOne, KeepsButStore};
 ghost use Rattle.abc_outside.specs.Stop.{Leaves, IsQuiet};
 ghost use Rattle.abc_journal.specs.Journal.{HasLayout, IsFull, after_record};
 ghost use Rattle.abc_journal.specs.Commit.{Full, AnswersTo, recorded, checkpointed, with_room, with_due, is_due as is_due_in, committed};
-ghost use Rattle.abc_store.specs.Workspace.{Workspace, empty, checkpoint_of};
+ghost use Rattle.abc_store.specs.Workspace.{Workspace, empty, checkpoint_of, IsWellTyped};
 ghost use Rattle.abc_store.specs.Opening.{LeadsTo, OpensTo};
 ghost use Rattle.abc_store.specs.Commit.{Refusal, kept_in, StillOpens, OpensToEither};
 ghost use Rattle.abc_store.specs.inner.Steps.{IsNoFault, SaysLimit, IsCheckpoint, IsMadeUp, IsPlan, fits, TakesDue};
@@ -91,7 +91,7 @@ fn add_record<H: Host>(
     ensures layouts { AnswersTo result journal.new.layout (recorded journal.old.bounds journal.old.layout (length payload.now)) }
     ensures limit { SaysLimit result journal.old.bounds.image }
     ensures layout { H.tells_image → IsNoFault result → HasLayout (H.now host.new).image journal.new.layout }
-    ensures opens { H.tells_image → (kept later : Workspace) → LeadsTo payload.now kept later → OpensTo (H.now host.old).image kept → OnOk result (OpensTo (H.now host.new).image later) }
+    ensures opens { H.tells_image → (kept later : Workspace) → LeadsTo payload.now kept later → IsWellTyped later → OpensTo (H.now host.old).image kept → OnOk result (OpensTo (H.now host.new).image later) }
     ensures full_host { IsFull result → host.new ≡ host.old }
     ensures unfit { (full : Full) → recorded journal.old.bounds journal.old.layout (length payload.now) ≡ Err full → IsFull result }
     ensures fault { IsErrOf result AppendFault.StoreFault → RoseByOne (H.now host.old).store_faults (H.now host.new).store_faults }
@@ -103,7 +103,7 @@ fn add_record<H: Host>(
     ensures unsound { IsErrOf result AppendFault.StoreFault → journal.new.sound ≡ false }
 
     ensures stops { H.tells_image → IsQuiet H.clock H.stopped host.old (H.now host.old).image
-        → (kept later : Workspace) → LeadsTo payload.now kept later → OpensTo (H.now host.old).image kept
+        → (kept later : Workspace) → LeadsTo payload.now kept later → IsWellTyped later → OpensTo (H.now host.old).image kept
         → Leaves H.clock H.stopped host.old host.new (OpensToEither kept later (H.now host.old).said) }
     ensures quiet { H.tells_image → IsQuiet H.clock H.stopped host.old (H.now host.old).image
         → IsNoFault result → IsQuiet H.clock H.stopped host.new (H.now host.new).image }

@@ -1,20 +1,21 @@
 //! The store: a workspace, and the journal that keeps it.
-ghost use Rattle.std.specs.Prelude.{◌≡◌, ◌⊎◌, ◌≤◌, ◌<◌, false, List, ℕ, length, IfOk, OnOk, IsErrOf, IsTrue, true, option_map, Ok, Err, Some};
+ghost use Rattle.std.specs.Prelude.{◌≡◌, ◌⊎◌, ◌↔◌, ◌≤◌, ◌<◌, false, List, ℕ, length, IfOk, OnOk, IsErrOf, IsTrue, true, option_map, Ok, Err, Some};
 ghost use Rattle.abc_outside.specs.Outside.{RoseByOne, KeepsButStore};
 ghost use Rattle.abc_outside.specs.Stop.{Leaves, IsQuiet};
 ghost use Rattle.abc_tree.specs.Units.{AreRising as AreInOrder};
+ghost use Rattle.abc_frames.specs.Maps.{AreRegular};
 ghost use Rattle.abc_num.specs.declared.limits.TheConstants.{MOST_UNITS};
 ghost use Rattle.abc_journal.specs.Image.{settled_image};
 ghost use Rattle.abc_journal.specs.Journal.{BeginsQuiet, IfNotAStore, IsNotAStore};
 ghost use Rattle.abc_record.specs.Kept.{AreKept};
-ghost use Rattle.abc_store.specs.Workspace.{Workspace, changed_by, changes_between, with_targets, with_routine, unit_named, IsWithinLimits, AreNamed, AreKeptUnits};
+ghost use Rattle.abc_store.specs.Workspace.{Workspace, changed_by, changes_between, with_targets, with_routine, unit_named, IsWithinLimits, IsWellTyped, AreNamed, AreKeptUnits};
 ghost use Rattle.abc_store.specs.Opening.{Opens, OpensTo};
 ghost use Rattle.abc_store.specs.Commit.{Holds, Refusal, stored, work_after, Tells, IsNoFault, IsDecided, IsTooLarge, IsStoreFull, StillOpens, OpensToEither};
 ghost use Rattle.abc_store.specs.View.{work_of};
 
 use crate::CommitFault;
 use crate::contents::Contents;
-use crate::opening::replay;
+use crate::opening::{are_typed, opened};
 use crate::plan::{Plan, prepare};
 use crate::steps::write_all;
 use crate::whole::as_changes;
@@ -43,6 +44,7 @@ impl Model for Store {
     ghost use Rattle.std.specs.Coded.{codes};
     ghost use Rattle.abc_frames.specs.View.{coded_targets};
     ghost use Rattle.abc_store.specs.View.{View};
+    ghost use Rattle.abc_store.specs.Workspace.{IsWellTyped};
     ghost use Rattle.abc_store.specs.inner.Steps.{IsSpellable};
     ghost use Rattle.abc_tree.specs.contracts.formulas.Bound as bound;
     ghost use Rattle.abc_tree.specs.contracts.commands.Action as action;
@@ -53,11 +55,12 @@ impl Model for Store {
 
     ghost view = { λ s. record { kept = s.contents; layout = s.journal.layout; bounds = s.journal.bounds; sound = s.journal.sound } };
 
-    ghost invariant = { λ s. IsSpellable s.contents × (s.journal.bounds.checkpoint ≡ s.checkpoint) };
+    ghost invariant = { λ s. IsSpellable s.contents × IsWellTyped s.contents × (s.journal.bounds.checkpoint ≡ s.checkpoint) };
 }
 
 impl Store {
-    /// Opens the store. An image of at most 65 bytes is made fresh; a longer one is only read, each record once.
+    /// Opens the store. An image of at most 65 bytes is made fresh; a longer one is only read, each record once, and then its
+    /// workspace is checked: one that no types fit is wrong at the start of its region.
     ///
     /// Errors: `NotAStore` with the place of what is wrong, and `Memory`, which leave the store as it was; `StoreFault` where a
     /// call of the host failed.
@@ -89,7 +92,7 @@ impl Store {
             Ok(found) => found,
             Err(fault) => return Err(fault),
         };
-        match replay(alloc, journal.layout().start, &payloads) {
+        match opened(alloc, journal.layout().start, &payloads) {
             Ok(contents) => Ok(Store {
                 alloc,
                 journal,
@@ -104,7 +107,9 @@ impl Store {
     pub fn targets(&self) -> &Targets
         ensures targets { result.now ≡ self.now.kept.targets }
         ensures named { AreNamed self.now.kept.targets }
+        ensures regular { AreRegular self.now.kept.targets }
         ensures limits { IsWithinLimits self.now.kept }
+        ensures typed { IsWellTyped self.now.kept }
     {
         self.contents.targets()
     }
@@ -115,6 +120,7 @@ impl Store {
         ensures in_order { AreInOrder self.now.kept.units }
         ensures kept { AreKeptUnits self.now.kept.units }
         ensures limits { IsWithinLimits self.now.kept }
+        ensures typed { IsWellTyped self.now.kept }
     {
         self.contents.units()
     }
@@ -132,6 +138,13 @@ impl Store {
         ensures none { result ≡ false → MOST_UNITS < length (with_routine self.now.kept unit.now).units }
     {
         self.contents.has_room_for(unit)
+    }
+
+    /// Whether types fit these targets and the units of the store.
+    pub fn fits(&self, targets: &Targets) -> Result<bool, OutOfMemory>
+        ensures { IfOk result (λ yes. IsTrue yes ↔ IsWellTyped (with_targets self.now.kept targets.now)) }
+    {
+        are_typed(self.alloc, targets, self.contents.units())
     }
 
     /// Targets equal to those of the store, for an item to change.
@@ -179,7 +192,7 @@ impl Store {
         requires sound { IsTrue self.old.sound }
         requires holds { H.tells_image → Holds (H.now host.old).image (work_of self.old) }
         requires kept { AreKept changes.items }
-        requires later { (later : Workspace) × (changed_by changes.items self.old.kept ≡ Some later) × IsWithinLimits later }
+        requires later { (later : Workspace) × (changed_by changes.items self.old.kept ≡ Some later) × IsWithinLimits later × IsWellTyped later }
 
         ensures answer { (later : Workspace) → changed_by changes.items self.old.kept ≡ Some later
             → Tells result self.old.bounds (work_of self.new) (stored self.old.bounds (work_of self.old) changes.items later) }

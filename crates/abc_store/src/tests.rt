@@ -2,7 +2,7 @@
 ghost use Rattle.std.specs.Prelude.{◌≡◌, Some, IfOk, OnOk, IsTrue};
 ghost use Rattle.abc_outside.specs.MemoryView.{outside_of};
 ghost use Rattle.abc_record.specs.Kept.{AreKept};
-ghost use Rattle.abc_store.specs.Workspace.{Workspace, changed_by, IsWithinLimits};
+ghost use Rattle.abc_store.specs.Workspace.{Workspace, changed_by, IsWithinLimits, IsWellTyped};
 ghost use Rattle.abc_store.specs.Commit.{Holds};
 ghost use Rattle.abc_store.specs.View.{work_of};
 
@@ -29,12 +29,15 @@ fn whole(n: i64) -> Value {
 /// The changes of `PUT n IN x`.
 fn put(alloc: Global, store: &Store, n: i64) -> Result<Vec<Change>, OutOfMemory>
     ensures kept { IfOk result (λ changes. AreKept changes.items) }
-    ensures later { IfOk result (λ changes. (later : Workspace) × (changed_by changes.items store.now.kept ≡ Some later) × IsWithinLimits later) }
+    ensures later { IfOk result (λ changes. (later : Workspace) × (changed_by changes.items store.now.kept ≡ Some later) × IsWithinLimits later × IsWellTyped later) }
 {
     let _there = store.targets();
     let mut working = store.working()?;
     working.set(Text::of(alloc, b"x")?, whole(n))?;
     if working.len() > MOST_TARGETS {
+        return Err(OutOfMemory);
+    }
+    if !store.fits(&working)? {
         return Err(OutOfMemory);
     }
     store.changes(&working)
@@ -49,7 +52,7 @@ fn commit(
     requires sound { IsTrue store.old.sound }
     requires holds { Holds (outside_of host.old).image (work_of store.old) }
     requires kept { AreKept changes.items }
-    requires later { (later : Workspace) × (changed_by changes.items store.old.kept ≡ Some later) × IsWithinLimits later }
+    requires later { (later : Workspace) × (changed_by changes.items store.old.kept ≡ Some later) × IsWithinLimits later × IsWellTyped later }
     ensures sound { OnOk result (IsTrue store.new.sound) }
     ensures holds { OnOk result (Holds (outside_of host.new).image (work_of store.new)) }
 {

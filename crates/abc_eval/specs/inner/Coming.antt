@@ -5,18 +5,27 @@ use Rattle.abc_outside.specs.Lines.{Unread, lines_in}
 use Rattle.abc_meaning.specs.State.{State, Flow, Got}
 use Rattle.abc_pending.specs.Leads.{as_flow}
 use Rattle.abc_pending.specs.Pending.{Answer}
-use Rattle.abc_machine.specs.Outcomes.{EndsSo}
+use Rattle.abc_machine.specs.Outcomes.{EndsSo, end_of}
 use Rattle.abc_machine.specs.Machine.{WantsOne}
-use Rattle.abc_machine.specs.declared.outcome.Outcome.{Outcome}
-use Rattle.abc_machine.specs.declared.outcome.Outcome.TheVariants.{Done, Quit}
+use Rattle.abc_machine.specs.declared.outcome.Outcome.{Outcome as End}
+use Rattle.abc_machine.specs.declared.outcome.Outcome.TheVariants as machine
 use Rattle.abc_machine.specs.declared.outcome.RunStop.{RunStop}
 use Rattle.abc_machine.specs.declared.outcome.RunStop.TheVariants.{Input, Long, Memory}
+use Rattle.abc_eval.specs.Runs.{outcome_of}
+use Rattle.abc_eval.specs.declared.outcome.Outcome.{Outcome}
+use Rattle.abc_eval.specs.declared.outcome.Outcome.TheVariants.{Done, Quit, Fault}
 use Rattle.abc_eval.specs.declared.running.Ran.{Ran}
+
+-- the end of a machine that is told so
+abbrev pub end_as : Outcome → End
+end_as Done = machine.Done
+end_as Quit = machine.Quit
+end_as (Fault line fault) = machine.Fault line fault
 
 -- the run ends with these targets, this output, these lines left and so many steps
 pub record IsEnd (r : Ran) (targets : Targets) (unread : Unread) (budget : ℕ) (g : Got Flow) : Type 0 where
   pub end : State
-  pub ends : EndsSo r.outcome end (as_flow g)
+  pub ends : end_of (as_flow g) ≡ record { outcome = outcome_of r.outcome; state = end }
   pub targets_are : end.targets ≡ targets
   pub output_is : end.output ≡ r.output
   pub lines_are : end.lines ≡ lines_in unread
@@ -29,7 +38,7 @@ Comes (Err Input) targets unread budget g = Unit {0}
 Comes (Err Memory) targets unread budget g = Unit {0}
 
 -- how the steps of a machine end
-abbrev pub Ends : Result Outcome RunStop → State → Got Answer → Type 0
+abbrev pub Ends : Result End RunStop → State → Got Answer → Type 0
 Ends (Ok o) s g = EndsSo o s g
 Ends (Err Long) s g = WantsOne g
 Ends (Err Input) s g = Unit {0}

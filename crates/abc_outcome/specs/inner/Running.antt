@@ -4,8 +4,7 @@ use Rattle.abc_num.specs.Lines.{raw_lines}
 use Rattle.abc_num.specs.declared.lines.RawLine.{RawLine}
 use Rattle.abc_outside.specs.Outside.{Outside, RoseByOne}
 use Rattle.abc_meaning.specs.Ran.{Ran}
-use Rattle.abc_machine.specs.Outcomes.{outcome_of}
-use Rattle.abc_eval.specs.Runs.{WantsLine}
+use Rattle.abc_eval.specs.Runs.{WantsLine, outcome_of}
 use Rattle.abc_reader.specs.Asking.{Asked}
 use Rattle.abc_reader.specs.Reading.{Reading, MayFollow, ReadLines, ReadsOn, StandsAt}
 use Rattle.abc_outcome.specs.declared.answering.AnswerFault.{AnswerFault}

@@ -1,5 +1,5 @@
 -- The steps by which an item is answered.
-use Rattle.std.specs.Prelude.{◌≡◌, ℕ, Bool, false, List, [], ◌++◌, Option, None, Some, Result, Ok, Err}
+use Rattle.std.specs.Prelude.{◌≡◌, ◌≤◌, ℕ, Bool, false, List, [], ◌++◌, length, Option, None, Some, Result, Ok, Err, codes}
 use Rattle.abc_tree.specs.declared.commands.Command.{Command}
 use Rattle.abc_tree.specs.declared.commands.Item.{Item}
 use Rattle.abc_tree.specs.declared.commands.Item.TheVariants as item
@@ -26,15 +26,20 @@ use Rattle.abc_outcome.specs.Reply.{fault_line, missing_line}
 use Rattle.abc_outcome.specs.Outcome.{Behind, Outcome, ends_with, on_item}
 
 -- what comes of an item that was read, or in which a fault stands, by what stands behind it; want of memory says nothing of it
-abbrev pub ComesOf : Bounds → ℕ → ℕ → Work → Result Item ItemFault → (Behind → Outcome) → Type 0
-ComesOf bounds budget k work (Ok item) out = (behind : Behind) → out behind ≡ on_item bounds budget k work behind (Some item)
-ComesOf bounds budget k work (Err (At fault)) out = (behind : Behind) → out behind ≡ ends_with work behind.lines [] (fault_line k fault.line (fault_name fault.kind))
-ComesOf bounds budget k work (Err Memory) out = Unit {0}
+abbrev pub ComesOf : Option ℕ → Bounds → ℕ → ℕ → Work → Result Item ItemFault → (Behind → Outcome) → Type 0
+ComesOf line bounds budget k work (Ok item) out = (behind : Behind) → out behind ≡ on_item line bounds budget k work behind (Some item)
+ComesOf line bounds budget k work (Err (At fault)) out = (behind : Behind) → out behind ≡ ends_with work behind.lines [] (fault_line k fault.line (fault_name fault.kind))
+ComesOf line bounds budget k work (Err Memory) out = Unit {0}
 
--- an item that is a unit is spelled by its own lines, and the template of a unit that is to be taken out can be spelled
+-- the item that was read
+abbrev pub item_in : Result Item ItemFault → Option Item
+item_in (Ok item) = Some item
+item_in (Err fault) = None
+
+-- an item that is a unit is spelled by its own lines, of which there is one at least, and the template of a unit that is to be taken out can be spelled
 abbrev pub IsSpelledItem : Item → Type 0
 IsSpelledItem (item.Command c) = Unit {0}
-IsSpelledItem (item.Unit u) = unit_of_lines u.lines ≡ Some u
+IsSpelledItem (item.Unit u) = (unit_of_lines u.lines ≡ Some u) × (1 ≤ length u.lines)
 IsSpelledItem (item.Environment asked) = CanBeSpelled asked
 
 -- the template of a unit that is to be taken out can be spelled
@@ -51,13 +56,17 @@ abbrev pub Refuses : List ℕ → Result Answer AnswerFault → Type 0
 Refuses reply (Ok answer) = answer ≡ refusing reply
 Refuses reply (Err fault) = fault ≡ stops.Memory
 
--- what keeps a command from running, as its reply line: it reaches a missing unit
-abbrev pub if_missing : List Routine → ℕ → Command → Option (List ℕ) → Option (List ℕ)
-if_missing units k c None = None
-if_missing units k c (Some t) = Some (missing_line k (line_to units t c) t)
+-- what keeps a command from running, as its reply line: it reaches a missing unit, or no types fit it
+abbrev pub if_unfit : ℕ → Option ℕ → Option (List ℕ)
+if_unfit k None = None
+if_unfit k (Some n) = Some (fault_line k n (codes "TypeFault"))
 
-abbrev pub hindrance : List Routine → ℕ → Command → Option (List ℕ)
-hindrance units k c = if_missing units k c (first_missing units (called_by c))
+abbrev pub if_missing : List Routine → ℕ → Command → Option (List ℕ) → Option (List ℕ) → Option (List ℕ)
+if_missing units k c None unfit = unfit
+if_missing units k c (Some t) unfit = Some (missing_line k (line_to units t c) t)
+
+abbrev pub hindrance : Option ℕ → List Routine → ℕ → Command → Option (List ℕ)
+hindrance line units k c = if_missing units k c (first_missing units (called_by c)) (if_unfit k line)
 
 -- it is told by its reply; where nothing keeps the command, none is
 abbrev pub IsHindered : Option (List ℕ) → Result (Option Answer) AnswerFault → Type 0
@@ -66,6 +75,12 @@ IsHindered None (Ok (Some answer)) = ⊥
 IsHindered (Some line) (Ok None) = ⊥
 IsHindered (Some line) (Ok (Some answer)) = answer ≡ refusing line
 IsHindered hindrance (Err fault) = fault ≡ stops.Memory
+
+-- whatever keeps it, the session goes on
+abbrev pub Hinders : Result (Option Answer) AnswerFault → Type 0
+Hinders (Ok None) = Unit {0}
+Hinders (Ok (Some answer)) = answer.quit ≡ false
+Hinders (Err fault) = fault ≡ stops.Memory
 
 -- why an item is not answered whose run was broken off
 abbrev pub fault_of : RunStop → AnswerFault

@@ -9,6 +9,7 @@ use Rattle.abc_turns.specs.Session.{Ending, over, quit, waiting, Turn, Session, 
 use Rattle.abc_reader.specs.Reading.{Reading, fresh, ends_at, lines_at, MayFollow, ReadLines}
 use Rattle.abc_make.specs.Summary.{Count, with_reply, counted_from}
 use Rattle.abc_store.specs.Commit.{Work}
+use Rattle.abc_outcome.specs.Checks.{Check}
 use Rattle.abc_outcome.specs.Outcome.{Behind, Outcome}
 use Rattle.abc_outcome.specs.Answers.{CameTo}
 use Rattle.abc_outcome.specs.declared.answering.Answer.{Answer}
@@ -39,17 +40,17 @@ abbrev pub lines_left : Place → List RawLine
 lines_left place = lines_at place.reading place.left
 
 -- the session from there on
-abbrev pub session_at : Bounds → ℕ → Place → Session Work
-session_at bounds steps place = session_from bounds steps (input_ends place) (suc place.served) place.work (lines_left place)
+abbrev pub session_at : Check → Bounds → ℕ → Place → Session Work
+session_at check bounds steps place = session_from check bounds steps (input_ends place) (suc place.served) place.work (lines_left place)
 
 -- A session went on from a place to another: these lines were read, these turns were served, and the replies of all of them were said.
 -- Whatever lines may follow, the session over all of them goes on from there.
-pub record WentOn (bounds : Bounds) (steps : ℕ) (tells_said : Type 0) (old new : Place) : Type 0 where
+pub record WentOn (check : Check) (bounds : Bounds) (steps : ℕ) (tells_said : Type 0) (old new : Place) : Type 0 where
   pub lines : List RawLine
   pub turns : List (Turn Work)
   pub were_read : ReadLines old.reading old.left new.reading new.left lines
   pub goes : (ended : Bool) (rest : List RawLine) → MayFollow new.reading new.left ended rest
-      → session_from bounds steps ended (suc old.served) old.work ((old.reading.ahead ++ lines) ++ rest) ≡ after_turns turns (session_from bounds steps ended (suc new.served) new.work (new.reading.ahead ++ rest))
+      → session_from check bounds steps ended (suc old.served) old.work ((old.reading.ahead ++ lines) ++ rest) ≡ after_turns turns (session_from check bounds steps ended (suc new.served) new.work (new.reading.ahead ++ rest))
   pub work_is : new.work ≡ work_after old.work turns
   pub number : new.served ≡ old.served + length turns
   pub said_is : tells_said → new.said ≡ old.said ++ concat (replies_of turns)
@@ -61,10 +62,10 @@ IsOver quit place = Unit {0}
 IsOver waiting place = ⊥
 
 -- A session went on from a place to its end, by these turns, and the replies of all of them were said.
-pub record Ended (bounds : Bounds) (steps : ℕ) (tells_said : Type 0) (old new : Place) : Type 0 where
+pub record Ended (check : Check) (bounds : Bounds) (steps : ℕ) (tells_said : Type 0) (old new : Place) : Type 0 where
   pub turns : List (Turn Work)
   pub ending : Ending
-  pub is : session_at bounds steps old ≡ after_turns turns (ends ending)
+  pub is : session_at check bounds steps old ≡ after_turns turns (ends ending)
   pub work_is : new.work ≡ work_after old.work turns
   pub said_is : tells_said → new.said ≡ old.said ++ concat (replies_of turns)
   pub is_over : IsOver ending new
@@ -86,15 +87,15 @@ pub record WasCut (outcome : Behind → Outcome) (old new : Place) : Type 0 wher
   pub said_is : new.said ≡ old.said ++ take count answer.reply
 
 -- with these bytes more taken no further item is served: the session over them waits
-abbrev pub WantsInput : Bounds → ℕ → Place → ℕ → Type 0
-WantsInput bounds steps place taken_now =
+abbrev pub WantsInput : Check → Bounds → ℕ → Place → ℕ → Type 0
+WantsInput check bounds steps place taken_now =
     (more : ℕ) × (taken_now ≡ place.reading.taken + more) × (more ≤ length place.left)
-    × (session_from bounds steps false (suc place.served) place.work (place.reading.ahead ++ raw_lines false (place.reading.pending ++ take more place.left)) ≡ ends waiting)
+    × (session_from check bounds steps false (suc place.served) place.work (place.reading.ahead ++ raw_lines false (place.reading.pending ++ take more place.left)) ≡ ends waiting)
 
 -- a read where the session waits, and nothing was said since
-abbrev pub AsksInput : Bounds → ℕ → Place → ℕ × ℕ → Type 0
-AsksInput bounds steps place ask = WantsInput bounds steps place ask.0 × (ask.1 ≡ length place.said)
+abbrev pub AsksInput : Check → Bounds → ℕ → Place → ℕ × ℕ → Type 0
+AsksInput check bounds steps place ask = WantsInput check bounds steps place ask.0 × (ask.1 ≡ length place.said)
 
 -- what is counted with the replies of the session from there on
-abbrev pub counted_at : Bounds → ℕ → Place → Count → Count
-counted_at bounds steps place counted = counted_from counted (replies (session_at bounds steps place))
+abbrev pub counted_at : Check → Bounds → ℕ → Place → Count → Count
+counted_at check bounds steps place counted = counted_from counted (replies (session_at check bounds steps place))

@@ -1,5 +1,5 @@
 -- What is kept after a commit, by what was made before its first write.
-use Rattle.std.specs.Prelude.{Bool, true, false, ◌&&◌, List, [], ◌∷◌}
+use Rattle.std.specs.Prelude.{◌≡◌, ◌⊎◌, Bool, true, false, ◌&&◌, List, [], ◌∷◌}
 use Rattle.abc_record.specs.declared.change.Change.{Change}
 use Rattle.abc_record.specs.declared.change.Change.TheVariants.{SetTarget, DropTarget, SetUnit, DropUnit}
 use Rattle.abc_store.specs.declared.later.Later.{Later}
@@ -11,6 +11,10 @@ abbrev pub later_of : Workspace → Later → Workspace
 later_of kept later.Standing = kept
 later_of kept (later.Targets targets) = with_targets kept targets
 later_of kept (later.Whole contents) = contents
+
+-- what stands once the later contents are made up: still what stood before, or already the later contents
+abbrev pub Stands : Workspace → Workspace → Later → Type 0
+Stands before now later = (now ≡ before) ⊎ (now ≡ later_of now later)
 
 abbrev pub is_of_target : Change → Bool
 is_of_target (SetTarget name value) = true

@@ -8,12 +8,14 @@ use Rattle.abc_journal.specs.Journal.{need_of, after_record}
 use Rattle.abc_journal.specs.Commit.{is_due}
 use Rattle.abc_store.specs.declared.faults.CommitFault.{CommitFault}
 use Rattle.abc_store.specs.declared.faults.CommitFault.TheVariants as commit
-use Rattle.abc_store.specs.Workspace.{Workspace, empty, checkpoint_of, IsWithinLimits, AreNamed, AreKeptUnits}
+use Rattle.abc_frames.specs.Maps.{AreRegular}
+use Rattle.abc_store.specs.Workspace.{Workspace, empty, checkpoint_of, IsWithinLimits, IsWellTyped, AreNamed, AreKeptUnits}
 use Rattle.abc_store.specs.Opening.{LeadsTo}
 
 -- a workspace that changes can spell
 pub record IsSpellable (kept : Workspace) : Type 0 where
   pub named : AreNamed kept.targets
+  pub regular : AreRegular kept.targets
   pub units : AreKeptUnits kept.units
   pub limits : IsWithinLimits kept
 
@@ -59,6 +61,7 @@ may_be_due bounds layout bytes = if fits bounds layout bytes then is_due bounds 
 -- all that a commit writes is made up: its record, the checkpoint before it where the record doesn't fit, and the one after it where that may be due
 pub record IsPlan (bounds : Bounds) (layout : Layout) (payload : List ℕ) (before after : Option (List ℕ)) (kept later : Workspace) : Type 0 where
   pub leads : LeadsTo payload kept later
+  pub typed : IsWellTyped later
   pub room : IsMadeUp (not (fits bounds layout (length payload))) before kept
   pub due : IsMadeUp (may_be_due bounds layout (length payload)) after later
 

@@ -4,19 +4,20 @@ ghost use Rattle.abc_num.specs.Characters.{AreCharacters};
 ghost use Rattle.abc_num.specs.declared.limits.TheConstants.{MOST_LINE_BYTES};
 ghost use Rattle.abc_outside.specs.MemoryView.{outside_of};
 ghost use Rattle.abc_record.specs.Kept.{IsFlush, IsKeptText, AreKept, AreKeptLines};
-ghost use Rattle.abc_store.specs.Workspace.{Workspace, changed_by, IsWithinLimits};
+ghost use Rattle.abc_store.specs.Workspace.{Workspace, changed_by, IsWithinLimits, IsWellTyped};
 ghost use Rattle.abc_store.specs.Commit.{Holds};
 ghost use Rattle.abc_store.specs.View.{work_of};
 
 use super::{commit, keep};
-use crate::laws::units_are_set;
+use crate::laws::{dropping_stays_typed, units_are_set};
 use crate::{CommitFault, Store};
+use abc_check::Checker;
 use abc_journal::Bounds;
 use abc_num::{ItemLines, Items, Line, Names, OutOfMemory, Text};
 use abc_outside::MemoryHost;
-use abc_parse::parse_item;
+use abc_parse::{parse_item, regular_templates};
 use abc_record::Change;
-use abc_tree::Item;
+use abc_tree::{Item, one_template};
 use std::alloc::Global;
 use std::test::Fail;
 
@@ -39,9 +40,11 @@ fn one_line(alloc: Global, text: &[u8]) -> Result<ItemLines, OutOfMemory>
 fn unit_of(alloc: Global, store: &Store, text: &[u8]) -> Result<Vec<Change>, OutOfMemory>
     requires { AreCharacters text.now × (length text.now ≤ MOST_LINE_BYTES) × IsFlush text.now }
     ensures kept { IfOk result (λ changes. AreKept changes.items) }
-    ensures later { IfOk result (λ changes. (later : Workspace) × (changed_by changes.items store.now.kept ≡ Some later) × IsWithinLimits later) }
+    ensures later { IfOk result (λ changes. (later : Workspace) × (changed_by changes.items store.now.kept ≡ Some later) × IsWithinLimits later × IsWellTyped later) }
 {
     units_are_set();
+    regular_templates();
+    one_template();
     let lines = one_line(alloc, text)?;
     let Ok(Item::Unit(unit)) = parse_item(alloc, &lines, &Names::new(alloc)) else {
         return Err(OutOfMemory);
@@ -49,6 +52,9 @@ fn unit_of(alloc: Global, store: &Store, text: &[u8]) -> Result<Vec<Change>, Out
     if !store.has_room_for(&unit) {
         return Err(OutOfMemory);
     }
+    let Ok(()) = Checker::check_unit(alloc, store.targets(), store.units(), &unit) else {
+        return Err(OutOfMemory);
+    };
     let mut changes = Vec::new(alloc);
     changes.push(Change::SetUnit { lines })?;
     Ok(changes)
@@ -58,8 +64,9 @@ fn unit_of(alloc: Global, store: &Store, text: &[u8]) -> Result<Vec<Change>, Out
 fn without(alloc: Global, store: &Store, template: &[u8]) -> Result<Vec<Change>, OutOfMemory>
     requires { IsKeptText template.now }
     ensures kept { IfOk result (λ changes. AreKept changes.items) }
-    ensures later { IfOk result (λ changes. (later : Workspace) × (changed_by changes.items store.now.kept ≡ Some later) × IsWithinLimits later) }
+    ensures later { IfOk result (λ changes. (later : Workspace) × (changed_by changes.items store.now.kept ≡ Some later) × IsWithinLimits later × IsWellTyped later) }
 {
+    dropping_stays_typed();
     let _there = store.units();
     let template = Text::of(alloc, template)?;
     let mut changes = Vec::new(alloc);

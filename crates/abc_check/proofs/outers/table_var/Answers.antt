@@ -1,4 +1,4 @@
-use Rattle.std.proofs.Common.{ℕ, get_or, arith}
+use Rattle.std.proofs.Common.{get_or, arith}
 use Rattle.std.proofs.lemmas.List.{get_or_default}
 use Rattle.abc_terms.specs.declared.term.VarId.{VarId}
 use Rattle.abc_check.proofs.KindVars.{table_made}

@@ -6,7 +6,7 @@ use Rattle.abc_principal.specs.Exact.{cuts_of}
 use Rattle.abc_check.specs.inner.Groupwise.{AreFound}
 use Rattle.abc_check.proofs.Demanding.{same_fault}
 use Rattle.abc_check.proofs.Knowing.{group_known, group_refused}
-use Rattle.abc_check.proofs.Nodes.{nodes_called}
+use Rattle.abc_fewer.proofs.Nodes.{nodes_called}
 use Rattle.abc_check.proofs.units.know_group.Goals as goal
 
 pub returns-in-Ok-put_all-clause-ok : goal.returns-in-Ok-put_all-clause-ok

@@ -8,7 +8,7 @@ use Rattle.abc_check.specs.inner.Groupwise.{KnowsGroups}
 use Rattle.abc_check.proofs.Demanding.{same_fault}
 use Rattle.abc_check.proofs.Finding.{each_once}
 use Rattle.abc_check.proofs.Knowing.{none_known, all_there, all_known, groups_of, group_low, group_is}
-use Rattle.abc_check.proofs.Nodes.{nodes_called}
+use Rattle.abc_fewer.proofs.Nodes.{nodes_called}
 use Rattle.abc_check.proofs.units.known_units.Goals as goal
 
 pub groups-requires : goal.groups-requires

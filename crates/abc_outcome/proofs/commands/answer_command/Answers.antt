@@ -1,48 +1,89 @@
-use Rattle.std.proofs.Common.{ℕ, List, [], Option, None, Some, Ok, sym, subst}
-use Rattle.abc_tree.specs.declared.commands.Unit.{Unit as Routine}
+use Rattle.std.proofs.Common.{ℕ, List, [], Option, None, Some, Ok, Err, sym, subst}
+use Rattle.abc_turns.specs.Session.{wants}
 use Rattle.abc_store.specs.View.{work_of}
 use Rattle.abc_outcome.specs.declared.answering.Answer.{Answer}
-use Rattle.abc_outcome.specs.Answers.{Answers}
-use Rattle.abc_outcome.specs.Missing.{called_by, first_missing, line_to}
-use Rattle.abc_outcome.specs.Outcome.{command_outcome, run_outcome, unless_missing}
-use Rattle.abc_outcome.specs.Reply.{missing_line}
+use Rattle.abc_outcome.specs.inner.Answering.{Answers}
+use Rattle.abc_outcome.specs.Missing.{called_by, first_missing}
+use Rattle.abc_outcome.specs.Outcome.{Behind, Outcome, command_outcome, ends_with, run_outcome, unless_missing, unless_unfit}
 use Rattle.abc_outcome.specs.inner.Settling.{Settles}
-use Rattle.abc_outcome.specs.inner.Steps.{IsHindered, hindrance}
-use Rattle.abc_outcome.proofs.Hindering.{none_missing, some_missing}
+use Rattle.abc_outcome.specs.inner.Steps.{Hinders, IsHindered, hindrance}
+use Rattle.abc_outcome.proofs.Hindering.{none_hinders, refusing_of, some_hinders}
+use Rattle.abc_outcome.proofs.KeepsUnits.{still}
 use Rattle.abc_outcome.proofs.Lifted.{settled}
-use Rattle.abc_outcome.proofs.Stays.{refused}
+use Rattle.abc_outcome.proofs.Stays.{refused, starved_so}
 use Rattle.abc_outcome.proofs.commands.answer_command.Goals as goal
 
-pub returns-in-Ok-None : goal.returns-in-Ok-None
-returns-in-Ok-None g c =
+pub accept-requires-clause-none_missing : goal.accept-requires-clause-none_missing
+accept-requires-clause-none_missing g c = c.in-Ok-None.ensures.none_missing c.in-Ok-None.field-0-is
+
+pub accept-requires-clause-fits : goal.accept-requires-clause-fits
+accept-requires-clause-fits g c = c.in-Ok-None.ensures.fits c.in-Ok-None.field-0-is
+
+pub returns-in-Ok-None-clause-comes : goal.returns-in-Ok-None-clause-comes
+returns-in-Ok-None-clause-comes g c line tells =
     let work = work_of c.args.store.now in
     let bounds = c.args.store.now.bounds in
     let command = c.args.command.now in
     let k = c.args.k in
     let steps = c.args.steps in
-    let told : IsHindered (hindrance work.kept.units k command) (Ok None) =
-    subst (λ (units : List Routine). IsHindered (hindrance units k command) (Ok None)) c.units.ensures.units
-    (subst (λ (found : Option Answer). IsHindered (hindrance c.units.result.now k command) (Ok found)) c.in-Ok-None.field-0-is c.in-Ok-None.ensures) in
-    let none = none_missing work.kept.units k command (first_missing work.kept.units (called_by command)) told in
+    let told : IsHindered (hindrance line work.kept.units k command) (Ok None) =
+    subst (λ (found : Option Answer). IsHindered (hindrance line work.kept.units k command) (Ok found)) c.in-Ok-None.field-0-is (c.in-Ok-None.ensures.told line tells) in
+    let none = none_hinders work k command (first_missing work.kept.units (called_by command)) line told in
     subst (λ (missing : Option (List ℕ)). Answers g.H.Host.tells_image g.H.Host.tells_input g.H.Host.tells_said g.H.Host.now g.H.Host.clock g.H.Host.stopped c.args.store.now c.answer_run.new.store c.args.reader.now
-    c.answer_run.new.reader c.args.host.now c.answer_run.new.host c.answer_run.result (λ behind. unless_missing k work behind command missing (run_outcome bounds steps k work behind command))) (sym none) c.answer_run.ensures
+    c.answer_run.new.reader c.args.host.now c.answer_run.new.host c.answer_run.result
+    (λ behind. unless_missing k work behind command missing (unless_unfit k work behind line (run_outcome bounds steps k work behind command)))) (sym none.0)
+    (subst (λ (line : Option ℕ). Answers g.H.Host.tells_image g.H.Host.tells_input g.H.Host.tells_said g.H.Host.now g.H.Host.clock g.H.Host.stopped c.args.store.now c.answer_run.new.store c.args.reader.now
+    c.answer_run.new.reader c.args.host.now c.answer_run.new.host c.answer_run.result (λ behind. unless_unfit k work behind line (run_outcome bounds steps k work behind command))) (sym none.1)
+    c.answer_run.ensures.answers)
 
-pub returns-in-Ok-Some : goal.returns-in-Ok-Some
-returns-in-Ok-Some g c =
+pub returns-in-Ok-None-clause-answered : goal.returns-in-Ok-None-clause-answered
+returns-in-Ok-None-clause-answered g c =
+    ((λ behind. run_outcome c.args.store.now.bounds c.args.steps c.args.k (work_of c.args.store.now) behind c.args.command.now), c.answer_run.ensures.answers)
+
+pub returns-in-Ok-None-clause-up_to_date : goal.returns-in-Ok-None-clause-up_to_date
+returns-in-Ok-None-clause-up_to_date g c =
+    still c.answer_run.new.checker c.args.store.now.kept.units c.answer_run.new.store.kept.units c.answer_run.result c.answer_run.ensures.units c.answer_run.ensures.up_to_date
+
+pub returns-in-Ok-Some-clause-comes : goal.returns-in-Ok-Some-clause-comes
+returns-in-Ok-Some-clause-comes g c line tells =
     let work = work_of c.args.store.now in
     let bounds = c.args.store.now.bounds in
     let command = c.args.command.now in
     let k = c.args.k in
     let steps = c.args.steps in
     let answer = c.in-Ok-Some.answer in
-    let told : IsHindered (hindrance work.kept.units k command) (Ok (Some answer)) =
-    subst (λ (units : List Routine). IsHindered (hindrance units k command) (Ok (Some answer))) c.units.ensures.units
-    (subst (λ (found : Option Answer). IsHindered (hindrance c.units.result.now k command) (Ok found)) c.in-Ok-Some.field-0-is c.in-Ok-Some.ensures) in
-    let some = some_missing work.kept.units k command (first_missing work.kept.units (called_by command)) answer told in
-    let line = missing_line k (line_to work.kept.units some.0 command) some.0 in
+    let told : IsHindered (hindrance line work.kept.units k command) (Ok (Some answer)) =
+    subst (λ (found : Option Answer). IsHindered (hindrance line work.kept.units k command) (Ok found)) c.in-Ok-Some.field-0-is (c.in-Ok-Some.ensures.told line tells) in
+    let some = some_hinders work k command (first_missing work.kept.units (called_by command)) line answer told in
     settled g.H.Host.tells_image g.H.Host.tells_input g.H.Host.tells_said g.H.Host.now g.H.Host.clock g.H.Host.stopped c.args.store.now c.args.store.now c.args.reader.now c.args.host.now c.args.host.now (Ok answer)
-    (λ behind. command_outcome bounds steps k work behind command) c.requires.is_reader c.requires.same_count c.requires.at_end
+    (λ behind. command_outcome line bounds steps k work behind command) c.requires.is_reader c.requires.same_count c.requires.at_end
     (λ behind.
-    subst (λ (missing : Option (List ℕ)). Settles g.H.Host.tells_image g.H.Host.now g.H.Host.clock g.H.Host.stopped c.args.store.now c.args.store.now c.args.host.now c.args.host.now (Ok answer) behind.lines
-    (unless_missing k work behind command missing (run_outcome bounds steps k work behind command))) (sym some.1)
-    (refused g.H.Host.tells_image g.H.Host.now g.H.Host.clock g.H.Host.stopped c.args.store.now c.args.host.now behind.lines [] line (Ok answer) c.requires.sound c.requires.holds some.2))
+    subst (λ (out : Outcome). Settles g.H.Host.tells_image g.H.Host.now g.H.Host.clock g.H.Host.stopped c.args.store.now c.args.store.now c.args.host.now c.args.host.now (Ok answer) behind.lines out)
+    (sym (some.2 behind (run_outcome bounds steps k work behind command)))
+    (refused g.H.Host.tells_image g.H.Host.now g.H.Host.clock g.H.Host.stopped c.args.store.now c.args.host.now behind.lines [] some.0 (Ok answer) c.requires.sound c.requires.holds some.1))
+
+pub returns-in-Ok-Some-clause-answered : goal.returns-in-Ok-Some-clause-answered
+returns-in-Ok-Some-clause-answered g c =
+    let work = work_of c.args.store.now in
+    let answer = c.in-Ok-Some.answer in
+    let stays : Hinders (Ok (Some answer)) = subst (λ (found : Option Answer). Hinders (Ok found)) c.in-Ok-Some.field-0-is c.in-Ok-Some.ensures.hinders in (
+      (λ behind. ends_with work behind.lines [] answer.reply),
+      settled g.H.Host.tells_image g.H.Host.tells_input g.H.Host.tells_said g.H.Host.now g.H.Host.clock g.H.Host.stopped c.args.store.now c.args.store.now c.args.reader.now c.args.host.now c.args.host.now (Ok answer)
+          (λ behind. ends_with work behind.lines [] answer.reply) c.requires.is_reader c.requires.same_count c.requires.at_end
+          (λ behind. refused g.H.Host.tells_image g.H.Host.now g.H.Host.clock g.H.Host.stopped c.args.store.now c.args.host.now behind.lines [] answer.reply (Ok answer) c.requires.sound c.requires.holds (refusing_of answer stays)),
+    )
+
+pub returns-in-Err-clause-comes : goal.returns-in-Err-clause-comes
+returns-in-Err-clause-comes g c line tells =
+    let out : Behind → Outcome = λ behind. command_outcome line c.args.store.now.bounds c.args.steps c.args.k (work_of c.args.store.now) behind c.args.command.now in
+    settled g.H.Host.tells_image g.H.Host.tells_input g.H.Host.tells_said g.H.Host.now g.H.Host.clock g.H.Host.stopped c.args.store.now c.args.store.now c.args.reader.now c.args.host.now c.args.host.now (Err c.in-Err.fault)
+    out c.requires.is_reader c.requires.same_count c.requires.at_end
+    (λ behind. starved_so g.H.Host.tells_image g.H.Host.now g.H.Host.clock g.H.Host.stopped c.args.store.now c.args.host.now behind.lines (out behind) c.in-Err.fault c.in-Err.ensures.hinders)
+
+pub returns-in-Err-clause-answered : goal.returns-in-Err-clause-answered
+returns-in-Err-clause-answered g c = (
+  (λ behind. wants),
+  settled g.H.Host.tells_image g.H.Host.tells_input g.H.Host.tells_said g.H.Host.now g.H.Host.clock g.H.Host.stopped c.args.store.now c.args.store.now c.args.reader.now c.args.host.now c.args.host.now (Err c.in-Err.fault)
+      (λ behind. wants) c.requires.is_reader c.requires.same_count c.requires.at_end
+      (λ behind. starved_so g.H.Host.tells_image g.H.Host.now g.H.Host.clock g.H.Host.stopped c.args.store.now c.args.host.now behind.lines wants c.in-Err.fault c.in-Err.ensures.hinders),
+)

@@ -3,6 +3,7 @@ use Rattle.abc_num.specs.declared.limits.TheConstants.{MOST_DEPTH}
 use Rattle.abc_tree.specs.declared.commands.Unit.{Unit as Routine}
 use Rattle.abc_frames.specs.Maps.{Targets}
 use Rattle.abc_meaning.specs.Ran.{ran}
+use Rattle.abc_eval.specs.Runs.{IsAccepted}
 use Rattle.abc_reader.specs.Lending.{CallsRead}
 use Rattle.abc_reader.proofs.Lending.{calls_keep, calls_read}
 use Rattle.abc_outcome.specs.declared.answering.AnswerFault.{AnswerFault}
@@ -12,6 +13,15 @@ use Rattle.abc_outcome.proofs.Taking.{runs_broken, runs_ended}
 use Rattle.abc_outcome.proofs.commands.run_over.Given.{Over}
 use Rattle.abc_outcome.proofs.commands.run_over.Goals.{After-is_reader}
 use Rattle.abc_outcome.proofs.commands.run_over.Goals as goal
+
+pub run_item-ran-requires : goal.run_item-ran-requires
+run_item-ran-requires g c =
+    let command = c.args.command.now in
+    let kept = c.args.store.now.kept in
+    record {
+      accepted = subst (λ (units : List Routine). IsAccepted units c.in-Ok.targets command) (sym c.units.ensures.units)
+          (subst (λ (targets : Targets). IsAccepted kept.units targets command) (sym c.in-Ok.ensures) c.requires.accepted);
+    }
 
 -- what the calls of the run did
 read : (g : Over) (c : After-is_reader g)

@@ -1,4 +1,5 @@
-use Rattle.std.proofs.Common.{◌≡◌, ◌∙◌, List, ℕ, false, [], refl, ap, subst}
+use Rattle.std.proofs.Common.{rules, ◌≡◌, ◌∙◌, List, ℕ, false, [], refl, ap, subst}
+use Rattle.abc_tree.specs.Units.{AreRising}
 use Rattle.abc_store.specs.Commit.{stored}
 use Rattle.abc_store.specs.View.{work_of}
 use Rattle.abc_record.specs.declared.change.Change.{Change}
@@ -11,14 +12,15 @@ use Rattle.abc_outcome.proofs.inquiries.drop_unit.Goals as goal
 pub keep-requires-clause-later : goal.keep-requires-clause-later
 keep-requires-clause-later g c =
     let kept = c.args.store.now.kept in
+    let in_order : AreRising kept.units = search rules in
     let leads = unit_drops kept c.args.template c.in-Ok-dropping.changes.items c.in-Ok-dropping.ensures in
-    (without_unit c.args.template kept, leads, c.dropping_keeps_within_limits.ensures c.args.template kept (without_unit c.args.template kept) c.targets-there.ensures.limits refl)
+    (without_unit c.args.template kept, leads, c.dropping_keeps_within_limits.ensures c.args.template kept (without_unit c.args.template kept) c.targets-there.ensures.limits refl, c.dropping_stays_typed.ensures kept c.args.template in_order c.targets-there.ensures.typed)
 
 pub keep-requires-clause-kept : goal.keep-requires-clause-kept
 keep-requires-clause-kept g c = drop_is_kept c.args.template c.in-Ok-dropping.changes.items c.requires.spelled c.in-Ok-dropping.ensures
 
-pub returns-in-Ok-dropping : goal.returns-in-Ok-dropping
-returns-in-Ok-dropping g c behind =
+pub returns-in-Ok-dropping-clause-settles : goal.returns-in-Ok-dropping-clause-settles
+returns-in-Ok-dropping-clause-settles g c behind =
     let work = work_of c.args.store.now in
     let k = c.args.k in
     let later = without_unit c.args.template work.kept in

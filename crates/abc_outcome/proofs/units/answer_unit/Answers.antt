@@ -1,37 +1,47 @@
-use Rattle.std.proofs.Common.{◌≡◌, ◌∙◌, true, false, List, ℕ, ap, subst, rules}
-use Rattle.abc_record.specs.Kept.{AreKeptLines}
-use Rattle.abc_store.specs.Commit.{stored}
+use Rattle.std.proofs.Common.{ℕ, List, [], length, codes, Option, None, Some, subst}
 use Rattle.abc_store.specs.View.{work_of}
-use Rattle.abc_tree.specs.Units.{with_unit}
-use Rattle.abc_tree.specs.declared.commands.Unit.{Unit as Routine}
-use Rattle.abc_store.specs.Workspace.{IsWithinLimits, with_routine}
+use Rattle.abc_outcome.specs.Checks.{TakesUnit, TellsTypeLine}
+use Rattle.abc_outcome.specs.Outcome.{ends_with, set_outcome, unless_unfit}
+use Rattle.abc_outcome.specs.Reply.{fault_line, said}
 use Rattle.abc_outcome.specs.inner.Settling.{Settles}
-use Rattle.abc_outcome.specs.Outcome.{Outcome, accepted_line, on_stored}
-use Rattle.abc_outcome.specs.Spelled.{are_spelled_lines}
-use Rattle.abc_outcome.proofs.Commits.{unit_kept}
-use Rattle.abc_outcome.proofs.Items.{unit_is_kept, unit_leads}
+use Rattle.abc_outcome.specs.inner.Steps.{Refuses}
+use Rattle.abc_outcome.proofs.Stays.{refused}
+use Rattle.abc_outcome.proofs.Typed.{lines_are_one}
+use Rattle.abc_outcome.proofs.units.answer_unit.Given.{Over}
+use Rattle.abc_outcome.proofs.units.answer_unit.Goals.{After-refusal}
 use Rattle.abc_outcome.proofs.units.answer_unit.Goals as goal
 
-pub keep-requires-clause-later : goal.keep-requires-clause-later
-keep-requires-clause-later g c =
-    let there : c.has_room_for.result ≡ true = search rules in
-    (with_routine c.args.store.now.kept c.args.unit, unit_leads c.args.store.now.kept c.args.unit c.in-Ok-setting.changes.items c.requires.spelled c.in-Ok-setting.ensures, c.has_room_for.ensures.room there)
+-- it is refused on the line that the check found
+refused_there : (g : Over) (c : After-refusal g) (left : List _) → Settles g.H.Host.tells_image g.H.Host.now g.H.Host.clock g.H.Host.stopped c.args.store.now c.args.store.now c.args.host.now c.args.host.now c.refusal.result left
+    (ends_with (work_of c.args.store.now) left [] (fault_line c.args.k c.in-Ok-Some.line (codes "TypeFault")))
+refused_there g c left =
+    let line = fault_line c.args.k c.in-Ok-Some.line (codes "TypeFault") in
+    let told : Refuses (said [] line) c.refusal.result = subst (λ (output : List ℕ). Refuses (said output line) c.refusal.result) c.new.ensures.items c.refusal.ensures in
+    refused g.H.Host.tells_image g.H.Host.now g.H.Host.clock g.H.Host.stopped c.args.store.now c.args.host.now left [] line c.refusal.result c.requires.sound c.requires.holds told
 
-pub keep-requires-clause-kept : goal.keep-requires-clause-kept
-keep-requires-clause-kept g c =
-    let spelled : c.are_spelled_lines.result ≡ true = search rules in
-    unit_is_kept c.args.unit c.in-Ok-setting.changes.items (subst AreKeptLines c.as_slice.ensures (c.are_spelled_lines.ensures.kept spelled)) c.in-Ok-setting.ensures
+pub set_unit-requires-clause-fits : goal.set_unit-requires-clause-fits
+set_unit-requires-clause-fits g c = subst (TellsTypeLine (TakesUnit c.args.store.now.kept c.args.unit) (length c.args.unit.lines)) c.in-Ok-None.field-0-is c.in-Ok-None.ensures
 
-pub returns-in-Ok-setting : goal.returns-in-Ok-setting
-returns-in-Ok-setting g c behind =
-    let unit = c.args.unit in
+pub returns-in-Ok-None-clause-comes : goal.returns-in-Ok-None-clause-comes
+returns-in-Ok-None-clause-comes g c line tells behind =
     let work = work_of c.args.store.now in
-    let later = with_routine work.kept unit in
-    let there : c.has_room_for.result ≡ true = search rules in
-    let room : IsWithinLimits later = c.has_room_for.ensures.room there in
-    let spelled : are_spelled_lines unit.lines ≡ true = search rules in
-    subst (λ (out : Outcome). Settles g.H.Host.tells_image g.H.Host.now g.H.Host.clock g.H.Host.stopped c.args.store.now c.keep.new.store c.args.host.now c.keep.new.host c.keep.result behind.lines out)
-    (ap (λ (output : List ℕ). on_stored c.args.k work (record { output = output; left = behind.lines; line = c.in-Ok.line.items; quits = false }) (stored c.args.store.now.bounds work c.in-Ok-setting.changes.items later)) c.new-in-Ok-setting.ensures.items
-    ∙ unit_kept c.args.store.now.bounds c.args.k work behind unit c.in-Ok-setting.changes.items c.in-Ok.line.items room.units spelled
-    (c.in-Ok.ensures ∙ ap (λ (units : List Routine). accepted_line c.args.k unit (with_unit unit units)) c.units.ensures.units) c.in-Ok-setting.ensures)
-    (c.keep.ensures later behind.lines (unit_leads work.kept unit c.in-Ok-setting.changes.items c.requires.spelled c.in-Ok-setting.ensures))
+    let unit = c.args.unit in
+    let same = lines_are_one (TakesUnit work.kept unit) (length unit.lines) None line (subst (TellsTypeLine (TakesUnit work.kept unit) (length unit.lines)) c.in-Ok-None.field-0-is c.in-Ok-None.ensures) tells in
+    subst (λ (line : Option ℕ). Settles g.H.Host.tells_image g.H.Host.now g.H.Host.clock g.H.Host.stopped c.args.store.now c.set_unit.new.store c.args.host.now c.set_unit.new.host c.set_unit.result behind.lines
+    (unless_unfit c.args.k work behind line (set_outcome c.args.store.now.bounds c.args.k work behind unit))) same (c.set_unit.ensures behind)
+
+pub returns-in-Ok-None-clause-settles : goal.returns-in-Ok-None-clause-settles
+returns-in-Ok-None-clause-settles g c behind = (set_outcome c.args.store.now.bounds c.args.k (work_of c.args.store.now) behind c.args.unit, c.set_unit.ensures behind)
+
+pub returns-in-Ok-Some-clause-comes : goal.returns-in-Ok-Some-clause-comes
+returns-in-Ok-Some-clause-comes g c line tells behind =
+    let work = work_of c.args.store.now in
+    let unit = c.args.unit in
+    let same = lines_are_one (TakesUnit work.kept unit) (length unit.lines) (Some c.in-Ok-Some.line) line (subst (TellsTypeLine (TakesUnit work.kept unit) (length unit.lines)) c.in-Ok-Some.field-0-is c.in-Ok-Some.ensures) tells in
+    subst (λ (line : Option ℕ). Settles g.H.Host.tells_image g.H.Host.now g.H.Host.clock g.H.Host.stopped c.args.store.now c.args.store.now c.args.host.now c.args.host.now c.refusal.result behind.lines
+    (unless_unfit c.args.k work behind line (set_outcome c.args.store.now.bounds c.args.k work behind unit))) same
+    (refused_there g (goal.at.returns-in-Ok-Some-clause-comes g c).After-refusal behind.lines)
+
+pub returns-in-Ok-Some-clause-settles : goal.returns-in-Ok-Some-clause-settles
+returns-in-Ok-Some-clause-settles g c behind =
+    (ends_with (work_of c.args.store.now) behind.lines [] (fault_line c.args.k c.in-Ok-Some.line (codes "TypeFault")), refused_there g (goal.at.returns-in-Ok-Some-clause-settles g c).After-refusal behind.lines)

@@ -5,6 +5,7 @@ use Rattle.abc_reader.specs.Asking.{Asked}
 use Rattle.std.specs.Prelude.{Err}
 use Rattle.abc_store.specs.Opening.{Opens}
 use Rattle.abc_store.specs.Commit.{Work, Holds}
+use Rattle.abc_outcome.specs.Checks.{Check, IsExact}
 use Rattle.abc_session.specs.declared.status.TheConstants.{NOT_A_STORE}
 use Rattle.abc_session.specs.Session.{session_of}
 use Rattle.abc_session.specs.Run.{store_in, made_in, chose, IsStart}
@@ -31,11 +32,11 @@ of_choice g c P =
     same_choice P (g.H.Host.now c.args.host.now).left (g.H.Host.now c.choose.new.self).left (g.H.Host.now c.args.host.now).said (g.H.Host.now c.choose.new.self).said c.choose.ensures.rest.left c.choose.ensures.rest.said
 
 -- a choice that failed asks for nothing
-none_asked_by : (g : Over) (c : After-choose g) (steps : ℕ) (work : Work)
-    → Asked (AsksSettled c.args.b.now steps work (g.H.Host.now c.args.host.now).left (length (g.H.Host.now c.args.host.now).said)) (g.H.Host.now c.args.host.now).asked (g.H.Host.now c.choose.new.self).asked
-none_asked_by g c steps work =
+none_asked_by : (g : Over) (c : After-choose g) (check : Check) (exact : IsExact check) (steps : ℕ) (work : Work)
+    → Asked (AsksSettled check c.args.b.now steps work (g.H.Host.now c.args.host.now).left (length (g.H.Host.now c.args.host.now).said)) (g.H.Host.now c.args.host.now).asked (g.H.Host.now c.choose.new.self).asked
+none_asked_by g c check exact steps work =
     let old = g.H.Host.now c.args.host.now in
-    subst (λ (a : List (ℕ × ℕ)). Asked (AsksSettled c.args.b.now steps work old.left (length old.said)) old.asked a) (sym c.choose.ensures.rest.asked) (none_asked _ _)
+    subst (λ (a : List (ℕ × ℕ)). Asked (AsksSettled check c.args.b.now steps work old.left (length old.said)) old.asked a) (sym c.choose.ensures.rest.asked) (none_asked _ _)
 
 pub returns-in-Err-Store : goal.returns-in-Err-Store
 returns-in-Err-Store g c =
@@ -59,17 +60,17 @@ returns-in-Err-Store g c =
         untouched_stops = search rules;
         chosen = search rules;
         none_chosen = λ none. absurd (cc (ap store_in reads, none));
-        asked = λ told told_said told_input work start. none_asked_by g chosen c.args.steps work;
+        asked = λ check exact told told_said told_input work start. none_asked_by g chosen check exact c.args.steps work;
         asks_rise = search rules;
-        stands = λ unmade told told_said told_input still work start. inr (record {
+        stands = λ check exact unmade told told_said told_input still work start. inr (record {
           waiting = search rules;
           between = search rules;
-          broken = λ _. idle_broken work (session_of c.args.b.now c.args.steps work old.left) old.said mid.said (g.H.Host.stopped c.choose.new.self (g.H.Host.clock c.choose.new.self)) c.choose.ensures.rest.said
+          broken = λ _. idle_broken work (session_of check c.args.b.now c.args.steps work old.left) old.said mid.said (g.H.Host.stopped c.choose.new.self (g.H.Host.clock c.choose.new.self)) c.choose.ensures.rest.said
               (choice_now g.H.Host.clock g.H.Host.stopped c.args.host.now c.choose.new.self old.image work still start c.choose.ensures.stop);
           cut_short = search rules;
         });
-        headline = λ unmade told told_said told_input still work start.
-            choice_points g.H.Host.clock g.H.Host.stopped c.args.host.now old.image old.said work (session_of c.args.b.now c.args.steps work old.left)
+        headline = λ check exact unmade told told_said told_input still work start.
+            choice_points g.H.Host.clock g.H.Host.stopped c.args.host.now old.image old.said work (session_of check c.args.b.now c.args.steps work old.left)
             still (g.met.H.Host.says_now c.args.host.now) start c.choose.new.self c.choose.ensures.time c.choose.ensures.stop;
         last = search rules;
         made = λ count is. absurd (cc (ap made_in reads, is));
@@ -98,17 +99,17 @@ returns-in-Err-Input g c =
         untouched_stops = search rules;
         chosen = search rules;
         none_chosen = λ none. absurd (cc (ap store_in reads, none));
-        asked = λ told told_said told_input work start. none_asked_by g chosen c.args.steps work;
+        asked = λ check exact told told_said told_input work start. none_asked_by g chosen check exact c.args.steps work;
         asks_rise = search rules;
-        stands = λ unmade told told_said told_input still work start. inl (record {
+        stands = λ check exact unmade told told_said told_input still work start. inl (record {
           input_fault = refl;
           chosen = search rules;
           taken = search rules;
           said = search rules;
           image = choice_now g.H.Host.clock g.H.Host.stopped c.args.host.now c.choose.new.self old.image work still start c.choose.ensures.stop;
         });
-        headline = λ unmade told told_said told_input still work start.
-            choice_points g.H.Host.clock g.H.Host.stopped c.args.host.now old.image old.said work (session_of c.args.b.now c.args.steps work old.left)
+        headline = λ check exact unmade told told_said told_input still work start.
+            choice_points g.H.Host.clock g.H.Host.stopped c.args.host.now old.image old.said work (session_of check c.args.b.now c.args.steps work old.left)
             still (g.met.H.Host.says_now c.args.host.now) start c.choose.new.self c.choose.ensures.time c.choose.ensures.stop;
         last = search rules;
         made = λ count is. absurd (cc (ap made_in reads, is));
@@ -123,13 +124,13 @@ returns-in-Ok g c =
     let chosen = (goal.at.returns-in-Ok g c).After-choose in
     record {
       run = λ words reads. record {
-        complete = λ unmade told told_said told_input is. same_complete c.args.b.now c.args.steps old mid new c.choose.ensures.rest.image c.choose.ensures.rest.left c.choose.ensures.rest.said (c.run_store.ensures.complete told told_said told_input is);
+        complete = λ check exact unmade told told_said told_input is. same_complete check c.args.b.now c.args.steps old mid new c.choose.ensures.rest.image c.choose.ensures.rest.left c.choose.ensures.rest.said ((c.run_store.ensures.complete check exact) told told_said told_input is);
         status_is = search rules;
         usage = search rules;
         unread = λ none. absurd (cc (reads, none));
         cause = search rules;
         refused = search rules;
-        waits = λ told told_input work start is. of_choice g chosen (λ l t. (session_of c.args.b.now c.args.steps work l).ending ≡ waiting) (c.run_store.ensures.waits told told_input work (chosen_start g chosen work start) is);
+        waits = λ check exact told told_input work start is. of_choice g chosen (λ l t. (session_of check c.args.b.now c.args.steps work l).ending ≡ waiting) ((c.run_store.ensures.waits check exact) told told_input work (chosen_start g chosen work start) is);
         most_taken = search rules;
         completeness = λ told kept right none.
             let no_wrong : c.run_store.result ≡ NOT_A_STORE → ⊥ = λ is.
@@ -142,23 +143,23 @@ returns-in-Ok g c =
         untouched_stops = search rules;
         chosen = λ told named is. inl (c.run_store.ensures.chosen ∙ c.in-Ok.ensures.chosen told ∙ ap (λ n. chose n old.chosen) (names_one words _ _ _ reads named is));
         none_chosen = λ none. absurd (cc (ap store_in reads, none));
-        asked = λ told told_said told_input work start.
-            subst (λ (a : List (ℕ × ℕ)). Asked (AsksSettled c.args.b.now c.args.steps work old.left (length old.said)) a new.asked) c.choose.ensures.rest.asked
-            (of_choice g chosen (λ l t. Asked (AsksSettled c.args.b.now c.args.steps work l (length t)) mid.asked new.asked) (c.run_store.ensures.asked told told_said told_input work (chosen_start g chosen work start)));
+        asked = λ check exact told told_said told_input work start.
+            subst (λ (a : List (ℕ × ℕ)). Asked (AsksSettled check c.args.b.now c.args.steps work old.left (length old.said)) a new.asked) c.choose.ensures.rest.asked
+            (of_choice g chosen (λ l t. Asked (AsksSettled check c.args.b.now c.args.steps work l (length t)) mid.asked new.asked) ((c.run_store.ensures.asked check exact) told told_said told_input work (chosen_start g chosen work start)));
         asks_rise = search rules;
-        stands = λ unmade told told_said told_input still work start.
-            inr (same_stands c.args.b.now c.args.steps work old mid new (g.H.Host.stopped c.run_store.new.host (g.H.Host.clock c.run_store.new.host)) c.run_store.result c.choose.ensures.rest.left c.choose.ensures.rest.said
-            (c.run_store.ensures.stands told told_said told_input (chosen_quiet g chosen still) work (chosen_start g chosen work start)));
-        headline = λ unmade told told_said told_input still work start.
-            run_points g.H.Host.clock g.H.Host.stopped c.args.host.now old.image old.said work (session_of c.args.b.now c.args.steps work old.left)
-            still (g.met.H.Host.says_now c.args.host.now) start c.choose.new.self c.run_store.new.host mid.image mid.said (session_of c.args.b.now c.args.steps work mid.left) c.choose.ensures.time c.choose.ensures.stop
-            (ap (λ (l : List ℕ). session_of c.args.b.now c.args.steps work l) c.choose.ensures.rest.left) c.choose.ensures.rest.said
-            (c.run_store.ensures.stops told told_said told_input (chosen_quiet g chosen still) work (chosen_start g chosen work start));
-        last = λ unmade told told_said told_input still is work start i s stop.
-            let all = c.run_store.ensures.complete told told_said told_input is in
+        stands = λ check exact unmade told told_said told_input still work start.
+            inr (same_stands check c.args.b.now c.args.steps work old mid new (g.H.Host.stopped c.run_store.new.host (g.H.Host.clock c.run_store.new.host)) c.run_store.result c.choose.ensures.rest.left c.choose.ensures.rest.said
+            ((c.run_store.ensures.stands check exact) told told_said told_input (chosen_quiet g chosen still) work (chosen_start g chosen work start)));
+        headline = λ check exact unmade told told_said told_input still work start.
+            run_points g.H.Host.clock g.H.Host.stopped c.args.host.now old.image old.said work (session_of check c.args.b.now c.args.steps work old.left)
+            still (g.met.H.Host.says_now c.args.host.now) start c.choose.new.self c.run_store.new.host mid.image mid.said (session_of check c.args.b.now c.args.steps work mid.left) c.choose.ensures.time c.choose.ensures.stop
+            (ap (λ (l : List ℕ). session_of check c.args.b.now c.args.steps work l) c.choose.ensures.rest.left) c.choose.ensures.rest.said
+            ((c.run_store.ensures.stops check exact) told told_said told_input (chosen_quiet g chosen still) work (chosen_start g chosen work start));
+        last = λ check exact unmade told told_said told_input still is work start i s stop.
+            let all = (c.run_store.ensures.complete check exact) told told_said told_input is in
             let same : all.start ≡ work = one_start c.images_open_to_one.ensures.one mid.image all.start work all.is_start (chosen_start g chosen work start) in
-            let last : last_work all.start (session_of c.args.b.now c.args.steps all.start mid.left) ≡ last_work work (session_of c.args.b.now c.args.steps work old.left) =
-            ap (λ w. last_work w (session_of c.args.b.now c.args.steps w mid.left)) same ∙ ap (λ (l : List ℕ). last_work work (session_of c.args.b.now c.args.steps work l)) c.choose.ensures.rest.left in
+            let last : last_work all.start (session_of check c.args.b.now c.args.steps all.start mid.left) ≡ last_work work (session_of check c.args.b.now c.args.steps work old.left) =
+            ap (λ w. last_work w (session_of check c.args.b.now c.args.steps w mid.left)) same ∙ ap (λ (l : List ℕ). last_work work (session_of check c.args.b.now c.args.steps work l)) c.choose.ensures.rest.left in
             last_opens new.image i _ (subst (λ w. Holds new.image w) last all.holds) (c.run_store.ensures.quiet told (chosen_quiet g chosen still) is i s stop);
         made = λ count is. absurd (cc (ap made_in reads, is));
       };

@@ -10,6 +10,7 @@ use Rattle.abc_reader.specs.Asking.{Asked}
 use Rattle.abc_make.specs.Summary.{counted}
 use Rattle.abc_store.specs.Commit.{Work, Holds}
 use Rattle.abc_store.specs.View.{work_of}
+use Rattle.abc_outcome.specs.Checks.{Check, IsExact}
 use Rattle.abc_session.specs.Session.{session_of}
 use Rattle.abc_session.specs.Serving.{OpensTo, IsSessionPoint}
 use Rattle.abc_session.specs.Settled.{AsksSettled, IsWaiting}
@@ -24,10 +25,10 @@ use Rattle.abc_session.proofs.running.run_store.Goals.{After-begin, After-serve_
 use Rattle.abc_session.proofs.running.run_store.Goals as goal
 
 -- while the store is opened every stop leaves the work of the start, and nothing is said
-opening_stops : (g : Over) (c : After-begin g) → g.H.Host.tells_image → BeginsQuiet g.H.Host.clock g.H.Host.stopped c.args.host.now (g.H.Host.now c.args.host.now).image → (work : Work) → IsStart (g.H.Host.now c.args.host.now).image work
-    → Leaves g.H.Host.clock g.H.Host.stopped c.args.host.now c.begin.new.host (IsSessionPoint work (session_of c.args.b.now c.args.steps work (g.H.Host.now c.args.host.now).left) (g.H.Host.now c.args.host.now).said)
-opening_stops g c told quiet work start =
-    opening_points g.H.Host.clock g.H.Host.stopped c.args.host.now c.begin.new.host work (session_of c.args.b.now c.args.steps work (g.H.Host.now c.args.host.now).left) (g.H.Host.now c.args.host.now).said
+opening_stops : (g : Over) (c : After-begin g) (check : Check) (exact : IsExact check) → g.H.Host.tells_image → BeginsQuiet g.H.Host.clock g.H.Host.stopped c.args.host.now (g.H.Host.now c.args.host.now).image → (work : Work) → IsStart (g.H.Host.now c.args.host.now).image work
+    → Leaves g.H.Host.clock g.H.Host.stopped c.args.host.now c.begin.new.host (IsSessionPoint work (session_of check c.args.b.now c.args.steps work (g.H.Host.now c.args.host.now).left) (g.H.Host.now c.args.host.now).said)
+opening_stops g c check exact told quiet work start =
+    opening_points g.H.Host.clock g.H.Host.stopped c.args.host.now c.begin.new.host work (session_of check c.args.b.now c.args.steps work (g.H.Host.now c.args.host.now).left) (g.H.Host.now c.args.host.now).said
     (c.begin.ensures.stops told quiet work.kept start.kept)
 
 opening_leaves : (g : Over) (c : After-begin g) → g.H.Host.tells_image → BeginsQuiet g.H.Host.clock g.H.Host.stopped c.args.host.now (g.H.Host.now c.args.host.now).image → (work : Work) → IsStart (g.H.Host.now c.args.host.now).image work
@@ -45,38 +46,38 @@ of_run g c P told work start =
     let same : store ≡ work = one_start c.images_open_to_one.ensures.one old.image store work (starts old.image mid.image store (c.in-Ok.ensures.opened told) (c.in-Ok.ensures.image told) (c.in-Ok.ensures.holds told)) start in
     same_run P c.args.b.now c.in-Ok.store.bounds work store old.left mid.left old.said mid.said c.in-Ok.ensures.bounds same c.begin.ensures.rest.left c.begin.ensures.rest.said
 
-session_stops : (g : Over) (c : After-serve_all g) → g.H.Host.tells_image → g.H.Host.tells_said → g.H.Host.tells_input → BeginsQuiet g.H.Host.clock g.H.Host.stopped c.args.host.now (g.H.Host.now c.args.host.now).image
+session_stops : (g : Over) (c : After-serve_all g) (check : Check) (exact : IsExact check) → g.H.Host.tells_image → g.H.Host.tells_said → g.H.Host.tells_input → BeginsQuiet g.H.Host.clock g.H.Host.stopped c.args.host.now (g.H.Host.now c.args.host.now).image
     → (work : Work) → IsStart (g.H.Host.now c.args.host.now).image work
-    → Leaves g.H.Host.clock g.H.Host.stopped c.args.host.now c.serve_all.new.host (IsSessionPoint work (session_of c.args.b.now c.args.steps work (g.H.Host.now c.args.host.now).left) (g.H.Host.now c.args.host.now).said)
-session_stops g c told told_said told_input quiet work start =
+    → Leaves g.H.Host.clock g.H.Host.stopped c.args.host.now c.serve_all.new.host (IsSessionPoint work (session_of check c.args.b.now c.args.steps work (g.H.Host.now c.args.host.now).left) (g.H.Host.now c.args.host.now).said)
+session_stops g c check exact told told_said told_input quiet work start =
     run_after g.H.Host.clock g.H.Host.stopped c.args.host.now c.begin.new.host c.serve_all.new.host _ _
-    (opening_points g.H.Host.clock g.H.Host.stopped c.args.host.now c.begin.new.host work (session_of c.args.b.now c.args.steps work (g.H.Host.now c.args.host.now).left) (g.H.Host.now c.args.host.now).said
+    (opening_points g.H.Host.clock g.H.Host.stopped c.args.host.now c.begin.new.host work (session_of check c.args.b.now c.args.steps work (g.H.Host.now c.args.host.now).left) (g.H.Host.now c.args.host.now).said
     (c.begin.ensures.stops told quiet work.kept start.kept))
-    (of_run g c (λ b w l t. Leaves g.H.Host.clock g.H.Host.stopped c.begin.new.host c.serve_all.new.host (IsSessionPoint w (session_of b c.args.steps w l) t)) told work start
-    (c.serve_all.ensures.stops told told_said told_input (c.in-Ok.ensures.quiet told quiet))) (λ i s p. p)
+    (of_run g c (λ b w l t. Leaves g.H.Host.clock g.H.Host.stopped c.begin.new.host c.serve_all.new.host (IsSessionPoint w (session_of check b c.args.steps w l) t)) told work start
+    ((c.serve_all.ensures.stops check exact) told told_said told_input (c.in-Ok.ensures.quiet told quiet))) (λ i s p. p)
 
-asked_in_run : (g : Over) (c : After-serve_all g) → g.H.Host.tells_image → g.H.Host.tells_said → g.H.Host.tells_input → (work : Work) → IsStart (g.H.Host.now c.args.host.now).image work
-    → Asked (AsksSettled c.args.b.now c.args.steps work (g.H.Host.now c.args.host.now).left (length (g.H.Host.now c.args.host.now).said)) (g.H.Host.now c.args.host.now).asked (g.H.Host.now c.serve_all.new.host).asked
-asked_in_run g c told told_said told_input work start =
+asked_in_run : (g : Over) (c : After-serve_all g) (check : Check) (exact : IsExact check) → g.H.Host.tells_image → g.H.Host.tells_said → g.H.Host.tells_input → (work : Work) → IsStart (g.H.Host.now c.args.host.now).image work
+    → Asked (AsksSettled check c.args.b.now c.args.steps work (g.H.Host.now c.args.host.now).left (length (g.H.Host.now c.args.host.now).said)) (g.H.Host.now c.args.host.now).asked (g.H.Host.now c.serve_all.new.host).asked
+asked_in_run g c check exact told told_said told_input work start =
     let old = g.H.Host.now c.args.host.now in
     let new = g.H.Host.now c.serve_all.new.host in
-    subst (λ (a : List (ℕ × ℕ)). Asked (AsksSettled c.args.b.now c.args.steps work old.left (length old.said)) a new.asked) c.begin.ensures.rest.asked
-    (of_run g c (λ b w l t. Asked (AsksSettled b c.args.steps w l (length t)) (g.H.Host.now c.begin.new.host).asked new.asked) told work start (c.serve_all.ensures.asked told_said told_input))
+    subst (λ (a : List (ℕ × ℕ)). Asked (AsksSettled check c.args.b.now c.args.steps work old.left (length old.said)) a new.asked) c.begin.ensures.rest.asked
+    (of_run g c (λ b w l t. Asked (AsksSettled check b c.args.steps w l (length t)) (g.H.Host.now c.begin.new.host).asked new.asked) told work start ((c.serve_all.ensures.asked check exact) told_said told_input))
 
 pub returns-in-Err-StoreFault-clause-stops : goal.returns-in-Err-StoreFault-clause-stops
-returns-in-Err-StoreFault-clause-stops g c told told_said told_input quiet work start = opening_stops g (goal.at.returns-in-Err-StoreFault-clause-stops g c).After-begin told quiet work start
+returns-in-Err-StoreFault-clause-stops g c check exact told told_said told_input quiet work start = opening_stops g (goal.at.returns-in-Err-StoreFault-clause-stops g c).After-begin check exact told quiet work start
 
 pub returns-in-Err-Memory-clause-stops : goal.returns-in-Err-Memory-clause-stops
-returns-in-Err-Memory-clause-stops g c told told_said told_input quiet work start = opening_stops g (goal.at.returns-in-Err-Memory-clause-stops g c).After-begin told quiet work start
+returns-in-Err-Memory-clause-stops g c check exact told told_said told_input quiet work start = opening_stops g (goal.at.returns-in-Err-Memory-clause-stops g c).After-begin check exact told quiet work start
 
 pub returns-in-Ok-serve_all-clause-stops : goal.returns-in-Ok-serve_all-clause-stops
-returns-in-Ok-serve_all-clause-stops g c told told_said told_input quiet work start = session_stops g (goal.at.returns-in-Ok-serve_all-clause-stops g c).After-serve_all told told_said told_input quiet work start
+returns-in-Ok-serve_all-clause-stops g c check exact told told_said told_input quiet work start = session_stops g (goal.at.returns-in-Ok-serve_all-clause-stops g c).After-serve_all check exact told told_said told_input quiet work start
 
 pub returns-clause-stops : goal.returns-clause-stops
-returns-clause-stops g c told told_said told_input quiet work start = session_stops g (goal.at.returns-clause-stops g c).After-serve_all told told_said told_input quiet work start
+returns-clause-stops g c check exact told told_said told_input quiet work start = session_stops g (goal.at.returns-clause-stops g c).After-serve_all check exact told told_said told_input quiet work start
 
 pub returns-in-Ok-serve_all-clause-complete : goal.returns-in-Ok-serve_all-clause-complete
-returns-in-Ok-serve_all-clause-complete g c told told_said told_input _ =
+returns-in-Ok-serve_all-clause-complete g c check exact told told_said told_input _ =
     let old = g.H.Host.now c.args.host.now in
     let new = g.H.Host.now c.serve_all.new.host in
     let at = (goal.at.returns-in-Ok-serve_all-clause-complete g c).After-serve_all in
@@ -85,62 +86,62 @@ returns-in-Ok-serve_all-clause-complete g c told told_said told_input _ =
     record {
       start = store;
       is_start = start;
-      said = of_run g at (λ b w l t. new.said ≡ t ++ output (session_of b c.args.steps w l)) told store start (c.in-Ok-serve_all.ensures.said told_said told_input);
-      holds = of_run g at (λ b w l t. Holds new.image (last_work w (session_of b c.args.steps w l))) told store start (subst (λ w. Holds new.image w) (c.in-Ok-serve_all.ensures.work told_input) (c.in-Ok-serve_all.ensures.holds told));
-      ended = same_input (session_of c.args.b.now c.args.steps store old.left).ending c.args.b.now.input old (g.H.Host.now c.begin.new.host) new c.begin.ensures.rest.left (of_run g at (λ b w l t. HasEnded (session_of b c.args.steps w l).ending b.input (g.H.Host.now c.begin.new.host) new) told store start (c.in-Ok-serve_all.ensures.ended told_input));
+      said = of_run g at (λ b w l t. new.said ≡ t ++ output (session_of check b c.args.steps w l)) told store start ((c.in-Ok-serve_all.ensures.said check exact) told_said told_input);
+      holds = of_run g at (λ b w l t. Holds new.image (last_work w (session_of check b c.args.steps w l))) told store start (subst (λ w. Holds new.image w) ((c.in-Ok-serve_all.ensures.work check exact) told_input) (c.in-Ok-serve_all.ensures.holds told));
+      ended = same_input (session_of check c.args.b.now c.args.steps store old.left).ending c.args.b.now.input old (g.H.Host.now c.begin.new.host) new c.begin.ensures.rest.left (of_run g at (λ b w l t. HasEnded (session_of check b c.args.steps w l).ending b.input (g.H.Host.now c.begin.new.host) new) told store start ((c.in-Ok-serve_all.ensures.ended check exact) told_input));
     }
 
 pub returns-in-Ok-serve_all-clause-counted : goal.returns-in-Ok-serve_all-clause-counted
-returns-in-Ok-serve_all-clause-counted g c told told_input _ work start =
-    of_run g (goal.at.returns-in-Ok-serve_all-clause-counted g c).After-serve_all (λ b w l t. c.serve_all.new.tally ≡ counted (replies (session_of b c.args.steps w l))) told work start (c.in-Ok-serve_all.ensures.counted told_input)
+returns-in-Ok-serve_all-clause-counted g c check exact told told_input _ work start =
+    of_run g (goal.at.returns-in-Ok-serve_all-clause-counted g c).After-serve_all (λ b w l t. c.serve_all.new.tally ≡ counted (replies (session_of check b c.args.steps w l))) told work start ((c.in-Ok-serve_all.ensures.counted check exact) told_input)
 
 pub returns-in-Err-StoreFault-clause-stands : goal.returns-in-Err-StoreFault-clause-stands
-returns-in-Err-StoreFault-clause-stands g c told told_said told_input quiet work start =
+returns-in-Err-StoreFault-clause-stands g c check exact told told_said told_input quiet work start =
     let old = g.H.Host.now c.args.host.now in
     record {
       waiting = search rules;
       between = search rules;
-      broken = λ _. idle_broken work (session_of c.args.b.now c.args.steps work old.left) old.said (g.H.Host.now c.begin.new.host).said (g.H.Host.stopped c.begin.new.host (g.H.Host.clock c.begin.new.host)) c.begin.ensures.rest.said
+      broken = λ _. idle_broken work (session_of check c.args.b.now c.args.steps work old.left) old.said (g.H.Host.now c.begin.new.host).said (g.H.Host.stopped c.begin.new.host (g.H.Host.clock c.begin.new.host)) c.begin.ensures.rest.said
           (opening_leaves g (goal.at.returns-in-Err-StoreFault-clause-stands g c).After-begin told quiet work start);
       cut_short = search rules;
     }
 
 pub returns-in-Err-Memory-clause-stands : goal.returns-in-Err-Memory-clause-stands
-returns-in-Err-Memory-clause-stands g c told told_said told_input quiet work start =
+returns-in-Err-Memory-clause-stands g c check exact told told_said told_input quiet work start =
     let old = g.H.Host.now c.args.host.now in
     record {
       waiting = search rules;
-      between = λ _. idle_between work (session_of c.args.b.now c.args.steps work old.left) old.said (g.H.Host.now c.begin.new.host).said (g.H.Host.stopped c.begin.new.host (g.H.Host.clock c.begin.new.host)) c.begin.ensures.rest.said
+      between = λ _. idle_between work (session_of check c.args.b.now c.args.steps work old.left) old.said (g.H.Host.now c.begin.new.host).said (g.H.Host.stopped c.begin.new.host (g.H.Host.clock c.begin.new.host)) c.begin.ensures.rest.said
           (opening_leaves g (goal.at.returns-in-Err-Memory-clause-stands g c).After-begin told quiet work start);
       broken = search rules;
       cut_short = search rules;
     }
 
 pub returns-in-Ok-serve_all-clause-asked : goal.returns-in-Ok-serve_all-clause-asked
-returns-in-Ok-serve_all-clause-asked g c told told_said told_input work start = asked_in_run g (goal.at.returns-in-Ok-serve_all-clause-asked g c).After-serve_all told told_said told_input work start
+returns-in-Ok-serve_all-clause-asked g c check exact told told_said told_input work start = asked_in_run g (goal.at.returns-in-Ok-serve_all-clause-asked g c).After-serve_all check exact told told_said told_input work start
 
 pub returns-clause-asked : goal.returns-clause-asked
-returns-clause-asked g c told told_said told_input work start = asked_in_run g (goal.at.returns-clause-asked g c).After-serve_all told told_said told_input work start
+returns-clause-asked g c check exact told told_said told_input work start = asked_in_run g (goal.at.returns-clause-asked g c).After-serve_all check exact told told_said told_input work start
 
 pub returns-clause-waits : goal.returns-clause-waits
-returns-clause-waits g c told told_input work start ends =
-    of_run g (goal.at.returns-clause-waits g c).After-serve_all (λ b w l t. (session_of b c.args.steps w l).ending ≡ waiting) told work start
-    (c.serve_all.ensures.waits told_input (c.in-Err.is ∙ ap (λ x. Err x) (c.status_of.ensures.too_long ends)))
+returns-clause-waits g c check exact told told_input work start ends =
+    of_run g (goal.at.returns-clause-waits g c).After-serve_all (λ b w l t. (session_of check b c.args.steps w l).ending ≡ waiting) told work start
+    ((c.serve_all.ensures.waits check exact) told_input (c.in-Err.is ∙ ap (λ x. Err x) (c.status_of.ensures.too_long ends)))
 
 pub returns-clause-stands : goal.returns-clause-stands
-returns-clause-stands g c told told_said told_input quiet work start =
+returns-clause-stands g c check exact told told_said told_input quiet work start =
     let at = (goal.at.returns-clause-stands g c).After-serve_all in
     let new = g.H.Host.now c.serve_all.new.host in
     record {
-      waiting = λ ends. of_run g at (λ b w l t. IsWaiting b c.args.steps w l t new (g.H.Host.stopped c.serve_all.new.host (g.H.Host.clock c.serve_all.new.host))) told work start
-          (c.serve_all.ensures.waiting told told_said told_input (c.in-Ok.ensures.quiet told quiet)
+      waiting = λ ends. of_run g at (λ b w l t. IsWaiting check b c.args.steps w l t new (g.H.Host.stopped c.serve_all.new.host (g.H.Host.clock c.serve_all.new.host))) told work start
+          ((c.serve_all.ensures.waiting check exact) told told_said told_input (c.in-Ok.ensures.quiet told quiet)
           (either_stop c.serve_all.result c.in-Err.stop session.Input session.Long (c.status_of.result ≡ INPUT_FAULT) (c.status_of.result ≡ INPUT_TOO_LONG) c.in-Err.is c.status_of.ensures.input_fault c.status_of.ensures.too_long ends));
-      between = λ ends. of_run g at (λ b w l t. IsBetween OpensTo (works w (session_of b c.args.steps w l)) (replies (session_of b c.args.steps w l)) t new.said (g.H.Host.stopped c.serve_all.new.host (g.H.Host.clock c.serve_all.new.host))) told work start
-          (c.serve_all.ensures.between told told_said told_input (c.in-Ok.ensures.quiet told quiet) (c.in-Err.is ∙ ap (λ x. Err x) (c.status_of.ensures.memory ends)));
-      broken = λ ends. of_run g at (λ b w l t. IsBroken OpensTo (works w (session_of b c.args.steps w l)) (replies (session_of b c.args.steps w l)) t new.said (g.H.Host.stopped c.serve_all.new.host (g.H.Host.clock c.serve_all.new.host))) told work start
-          (c.serve_all.ensures.broken told told_said told_input (c.in-Ok.ensures.quiet told quiet) (c.in-Err.is ∙ ap (λ x. Err x) (c.status_of.ensures.store_fault ends)));
-      cut_short = λ ends. of_run g at (λ b w l t. IsCutShort OpensTo (works w (session_of b c.args.steps w l)) (replies (session_of b c.args.steps w l)) t new.said (g.H.Host.stopped c.serve_all.new.host (g.H.Host.clock c.serve_all.new.host))) told work start
-          (c.serve_all.ensures.cut_short told told_said told_input (c.in-Ok.ensures.quiet told quiet) (c.in-Err.is ∙ ap (λ x. Err x) (c.status_of.ensures.sink_fault ends)));
+      between = λ ends. of_run g at (λ b w l t. IsBetween OpensTo (works w (session_of check b c.args.steps w l)) (replies (session_of check b c.args.steps w l)) t new.said (g.H.Host.stopped c.serve_all.new.host (g.H.Host.clock c.serve_all.new.host))) told work start
+          ((c.serve_all.ensures.between check exact) told told_said told_input (c.in-Ok.ensures.quiet told quiet) (c.in-Err.is ∙ ap (λ x. Err x) (c.status_of.ensures.memory ends)));
+      broken = λ ends. of_run g at (λ b w l t. IsBroken OpensTo (works w (session_of check b c.args.steps w l)) (replies (session_of check b c.args.steps w l)) t new.said (g.H.Host.stopped c.serve_all.new.host (g.H.Host.clock c.serve_all.new.host))) told work start
+          ((c.serve_all.ensures.broken check exact) told told_said told_input (c.in-Ok.ensures.quiet told quiet) (c.in-Err.is ∙ ap (λ x. Err x) (c.status_of.ensures.store_fault ends)));
+      cut_short = λ ends. of_run g at (λ b w l t. IsCutShort OpensTo (works w (session_of check b c.args.steps w l)) (replies (session_of check b c.args.steps w l)) t new.said (g.H.Host.stopped c.serve_all.new.host (g.H.Host.clock c.serve_all.new.host))) told work start
+          ((c.serve_all.ensures.cut_short check exact) told told_said told_input (c.in-Ok.ensures.quiet told quiet) (c.in-Err.is ∙ ap (λ x. Err x) (c.status_of.ensures.sink_fault ends)));
     }
 
 pub returns-in-Ok-serve_all-clause-refused : goal.returns-in-Ok-serve_all-clause-refused

@@ -55,16 +55,16 @@ returns-in-Err-Usage g c =
         untouched_stops = search rules;
         chosen = λ told named is. absurd (cc (ap store_in none, is));
         none_chosen = λ _. refl;
-        asked = λ told told_said told_input work start. none_asked _ _;
+        asked = λ check exact told told_said told_input work start. none_asked _ _;
         asks_rise = search rules;
-        stands = λ unmade told told_said told_input still work start. inr (record {
+        stands = λ check exact unmade told told_said told_input still work start. inr (record {
           waiting = search rules;
           between = search rules;
           broken = search rules;
           cut_short = search rules;
         });
-        headline = λ unmade told told_said told_input still work start.
-            still_point g.H.Host.clock g.H.Host.stopped c.args.host.now old.image old.said work (session_of c.args.b.now (steps_named words) work old.left) still (g.met.H.Host.says_now c.args.host.now) start;
+        headline = λ check exact unmade told told_said told_input still work start.
+            still_point g.H.Host.clock g.H.Host.stopped c.args.host.now old.image old.said work (session_of check c.args.b.now (steps_named words) work old.left) still (g.met.H.Host.says_now c.args.host.now) start;
         last = search rules;
         made = λ count is. absurd (cc (ap made_in none, is));
       };
@@ -91,16 +91,16 @@ returns-in-Err-Memory g c =
         untouched_stops = search rules;
         chosen = λ told named is. inr (refl, inr (inr refl));
         none_chosen = λ _. refl;
-        asked = λ told told_said told_input work start. none_asked _ _;
+        asked = λ check exact told told_said told_input work start. none_asked _ _;
         asks_rise = search rules;
-        stands = λ unmade told told_said told_input still work start. inr (record {
+        stands = λ check exact unmade told told_said told_input still work start. inr (record {
           waiting = search rules;
-          between = λ is. idle_between work (session_of c.args.b.now (steps_named words) work old.left) old.said old.said (g.H.Host.stopped c.args.host.now (g.H.Host.clock c.args.host.now)) refl (λ i s stop. subst (λ (m : List ℕ). OpensTo m work) (sym (still i s stop)) start.kept);
+          between = λ is. idle_between work (session_of check c.args.b.now (steps_named words) work old.left) old.said old.said (g.H.Host.stopped c.args.host.now (g.H.Host.clock c.args.host.now)) refl (λ i s stop. subst (λ (m : List ℕ). OpensTo m work) (sym (still i s stop)) start.kept);
           broken = search rules;
           cut_short = search rules;
         });
-        headline = λ unmade told told_said told_input still work start.
-            still_point g.H.Host.clock g.H.Host.stopped c.args.host.now old.image old.said work (session_of c.args.b.now (steps_named words) work old.left) still (g.met.H.Host.says_now c.args.host.now) start;
+        headline = λ check exact unmade told told_said told_input still work start.
+            still_point g.H.Host.clock g.H.Host.stopped c.args.host.now old.image old.said work (session_of check c.args.b.now (steps_named words) work old.left) still (g.met.H.Host.says_now c.args.host.now) start;
         last = search rules;
         made = λ count is. made_idle g.H.Host.tells_said g.H.Host.now g.H.Host.clock g.H.Host.stopped count (steps_named words) c.args.host.now (g.met.H.Host.says_now c.args.host.now);
       };

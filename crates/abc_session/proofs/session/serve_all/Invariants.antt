@@ -2,6 +2,7 @@ use Rattle.std.proofs.Common.{◌≡◌, ◌≤◌, ◌+◌, ◌-◌, [], length
 use Rattle.abc_outside.specs.Outside.{IsFaultless}
 use Rattle.abc_outside.specs.Stop.{Leaves, IsQuiet}
 use Rattle.abc_reader.specs.Asking.{Asked, AskedRising, next_ask}
+use Rattle.abc_outcome.specs.Checks.{Check, IsExact, IsUpToDate}
 use Rattle.abc_session.specs.Session.{session_of}
 use Rattle.abc_make.specs.Summary.{counted as counts_of}
 use Rattle.abc_turns.specs.Session.{replies}
@@ -20,6 +21,7 @@ invariant-items g l =
     let work = work_of l.initial.store in
     record {
       sound : IsTrue l.store.sound;
+      up_to_date : IsUpToDate l.checker l.store.kept.units;
       bounds : l.store.bounds ≡ l.initial.store.bounds;
       input_bound : l.reader.bound ≡ l.bound;
       holds : g.H.Host.tells_image → Holds now.image (work_of l.store);
@@ -28,12 +30,12 @@ invariant-items g l =
       ended : g.H.Host.tells_input → l.reader.ended ≡ true → now.left ≡ [];
       counted : l.served ≤ l.reader.used;
       countable : l.tally.items ≤ l.served;
-      tallied : g.H.Host.tells_input → counted_at limit l.steps (place_at l.served (work_of l.store) l.reader now) l.tally ≡ counts_of (replies (session_of limit l.steps work first.left));
-      went : g.H.Host.tells_input → WentOn limit l.steps g.H.Host.tells_said (start_place work limit.input first) (place_at l.served (work_of l.store) l.reader now);
-      asked : g.H.Host.tells_said → g.H.Host.tells_input → Asked (AsksSettled limit l.steps work first.left (length first.said)) first.asked now.asked;
+      tallied : (check : Check) → IsExact check → g.H.Host.tells_input → counted_at check limit l.steps (place_at l.served (work_of l.store) l.reader now) l.tally ≡ counts_of (replies (session_of check limit l.steps work first.left));
+      went : (check : Check) → IsExact check → g.H.Host.tells_input → WentOn check limit l.steps g.H.Host.tells_said (start_place work limit.input first) (place_at l.served (work_of l.store) l.reader now);
+      asked : (check : Check) → IsExact check → g.H.Host.tells_said → g.H.Host.tells_input → Asked (AsksSettled check limit l.steps work first.left (length first.said)) first.asked now.asked;
       asks_rise : g.H.Host.tells_said → AskedRising 0 (next_ask l.reader.taken l.reader.ended) first.asked now.asked;
-      stops : g.H.Host.tells_image → g.H.Host.tells_said → g.H.Host.tells_input → IsQuiet g.H.Host.clock g.H.Host.stopped l.initial.host first.image
-          → Leaves g.H.Host.clock g.H.Host.stopped l.initial.host l.host (IsSessionPoint work (session_of limit l.steps work first.left) first.said);
+      stops : (check : Check) → IsExact check → g.H.Host.tells_image → g.H.Host.tells_said → g.H.Host.tells_input → IsQuiet g.H.Host.clock g.H.Host.stopped l.initial.host first.image
+          → Leaves g.H.Host.clock g.H.Host.stopped l.initial.host l.host (IsSessionPoint work (session_of check limit l.steps work first.left) first.said);
       quiet : g.H.Host.tells_image → IsQuiet g.H.Host.clock g.H.Host.stopped l.initial.host first.image → IsQuiet g.H.Host.clock g.H.Host.stopped l.host now.image;
       chosen : now.chosen ≡ first.chosen;
       none_fell : NoneFell first now;

@@ -2,9 +2,9 @@ use Rattle.abc_store.proofs.Images.{append_opens, append_stops}
 use Rattle.abc_store.proofs.steps.add_record.Goals as goal
 
 pub returns-clause-opens : goal.returns-clause-opens
-returns-clause-opens g c told kept later leads is =
-    append_opens c.append.result (g.H.Host.now c.args.host.now).image (g.H.Host.now c.append.new.host).image c.args.payload.now kept later is leads _ (c.append.ensures.kept told)
+returns-clause-opens g c told kept later leads typed is =
+    append_opens c.append.result (g.H.Host.now c.args.host.now).image (g.H.Host.now c.append.new.host).image c.args.payload.now kept later is leads typed _ (c.append.ensures.kept told)
 
 pub returns-clause-stops : goal.returns-clause-stops
-returns-clause-stops g c told quiet kept later leads is =
-    append_stops g.H.Host.clock g.H.Host.stopped c.args.host.now c.append.new.host (g.H.Host.now c.args.host.now).image (g.H.Host.now c.args.host.now).said kept is c.args.payload.now later leads (c.append.ensures.stops told quiet)
+returns-clause-stops g c told quiet kept later leads typed is =
+    append_stops g.H.Host.clock g.H.Host.stopped c.args.host.now c.append.new.host (g.H.Host.now c.args.host.now).image (g.H.Host.now c.args.host.now).said kept is c.args.payload.now later leads typed (c.append.ensures.stops told quiet)

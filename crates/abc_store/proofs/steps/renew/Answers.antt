@@ -1,7 +1,7 @@
 use Rattle.std.proofs.Common.{sym, subst}
 use Rattle.abc_journal.specs.Checkpoint.{room_for, after_checkpoint}
 use Rattle.abc_store.specs.Opening.{OpensTo}
-use Rattle.abc_store.proofs.Images.{checkpoint_opens, checkpoint_stops}
+use Rattle.abc_store.proofs.Images.{checkpoint_opens, checkpoint_stops, typed_of}
 use Rattle.abc_store.proofs.Stepping.{unless_fault}
 use Rattle.abc_store.proofs.steps.renew.Goals as goal
 
@@ -11,7 +11,7 @@ returns-clause-opens g c told kept leads is =
     let bytes = c.args.payload.now in
     let new = (g.H.Host.now c.checkpoint.new.host).image in
     unless_fault c.checkpoint.result (OpensTo new kept)
-    (checkpoint_opens c.checkpoint.result (room_for journal.layout journal.bounds.image _) (λ place. after_checkpoint journal.layout place _) new bytes kept leads c.checkpoint.ensures.full (c.checkpoint.ensures.kept told))
+    (checkpoint_opens c.checkpoint.result (room_for journal.layout journal.bounds.image _) (λ place. after_checkpoint journal.layout place _) new bytes kept leads (typed_of (g.H.Host.now c.args.host.now).image kept is) c.checkpoint.ensures.full (c.checkpoint.ensures.kept told))
     (λ full. subst (λ h. OpensTo (g.H.Host.now h).image kept) (sym (c.checkpoint.ensures.same_host full)) is)
     c.checkpoint.ensures.no_memory
 

@@ -58,7 +58,7 @@ up_to_record g c told quiet kept later plan is =
     let mid : OpensTo (g.H.Host.now c.make_room.new.host).image kept = c.in_ok-make_room.ensures.opens told wanted kept plan.room is tt in
     run_after g.H.Host.clock g.H.Host.stopped c.args.host.now c.make_room.new.host c.add_record.new.host _ _
     (weaken_room g c told quiet kept later plan is)
-    (c.add_record.ensures.stops told (c.in_ok-make_room.ensures.quiet told quiet tt) kept later plan.leads mid)
+    (c.add_record.ensures.stops told (c.in_ok-make_room.ensures.quiet told quiet tt) kept later plan.leads plan.typed mid)
     (λ i s q. (q.0 ∙ c.make_room.ensures.rest.said, q.1))
   where
     weaken_room : (g : Over) (c : After-add_record g) → g.H.Host.tells_image → IsQuiet g.H.Host.clock g.H.Host.stopped c.args.host.now (g.H.Host.now c.args.host.now).image → (kept later : Workspace)
@@ -86,7 +86,7 @@ later_opens : (g : Over) (c : In_ok-add_record g) → g.H.Host.tells_image → (
     → IsPlan c.args.journal.now.bounds c.args.journal.now.layout c.args.payload.now (option_map (λ p. p.now) c.args.before) (option_map (λ p. p.now) c.args.after) kept later
     → OpensTo (g.H.Host.now c.args.host.now).image kept → OpensTo (g.H.Host.now c.add_record.new.host).image later
 later_opens g c told kept later plan is =
-    c.in_ok-add_record.ensures.opens told kept later plan.leads
+    c.in_ok-add_record.ensures.opens told kept later plan.leads plan.typed
     (c.in_ok-make_room.ensures.opens told (not (fits c.args.journal.now.bounds c.args.journal.now.layout (length c.args.payload.now))) kept plan.room is tt)
 
 pub returns-clause-layouts : goal.returns-clause-layouts

@@ -1,7 +1,9 @@
-use Rattle.std.proofs.Common.{rules, ◌≤◌, length, refl, sym, subst, arith}
+use Rattle.std.proofs.Common.{rules, ◌≡◌, ◌≤◌, ◌∙◌, true, length, refl, sym, subst, arith}
+use Rattle.std.specs.Prelude.{IsTrue}
 use Rattle.abc_record.specs.Kept.{IsKeptName}
-use Rattle.abc_store.specs.Workspace.{IsWithinLimits, AreNamed, with_targets}
+use Rattle.abc_store.specs.Workspace.{IsWithinLimits, AreNamed, IsWellTyped, with_targets}
 use Rattle.abc_store.proofs.Targets.{named_with}
+use Rattle.abc_store.proofs.Typed.{if_ok_then}
 use Rattle.abc_store.proofs.tests.put.Goals as goal
 
 pub returns-clause-kept : goal.returns-clause-kept
@@ -12,3 +14,10 @@ returns-clause-kept c =
     let few : length c.set.new.self ≤ 4096 = search rules in
     let limits : IsWithinLimits (with_targets c.args.store.now.kept c.set.new.self) = record { targets = few; units = c.targets-there.ensures.limits.units } in
     c.changes.ensures.kept named limits
+
+pub returns-clause-later : goal.returns-clause-later
+returns-clause-later c =
+    let few : length c.set.new.self ≤ 4096 = search rules in
+    let limits : IsWithinLimits (with_targets c.args.store.now.kept c.set.new.self) = record { targets = few; units = c.targets-there.ensures.limits.units } in
+    let typed : IsWellTyped (with_targets c.args.store.now.kept c.set.new.self) = search rules in
+    if_ok_then _ _ c.changes.result (λ changes lead. (with_targets c.args.store.now.kept c.set.new.self, lead, limits, typed)) c.changes.ensures.lead

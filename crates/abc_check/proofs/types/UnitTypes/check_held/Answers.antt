@@ -3,7 +3,7 @@ use Rattle.abc_groups.specs.Program.{LAST_LINE}
 use Rattle.abc_check.specs.Standing.{KnowsTypes}
 use Rattle.abc_check.specs.declared.types.UnitTypes.{UnitTypes}
 use Rattle.abc_ground.specs.Typable.{IsTypableWith}
-use Rattle.abc_check.proofs.Fewer.{fewer_lines}
+use Rattle.abc_fewer.proofs.Cuts.{fewer_lines}
 use Rattle.abc_check.proofs.types.UnitTypes.check_held.Goals as goal
 
 pub returns-in-Ok-true-clause-ok : goal.returns-in-Ok-true-clause-ok

@@ -5,7 +5,7 @@ use Rattle.abc_ground.specs.Typable.{IsTypable}
 use Rattle.abc_principal.specs.Exact.{cuts_of}
 use Rattle.abc_check.proofs.Beginning.{asked_whole, have_units, joined}
 use Rattle.abc_check.proofs.Demanding.{same_fault}
-use Rattle.abc_check.proofs.Finding.{found_own}
+use Rattle.abc_fewer.proofs.Cuts.{found_own}
 use Rattle.abc_check.proofs.Linewise.{without_values}
 use Rattle.abc_check.proofs.types.UnitTypes.over.Goals as goal
 

@@ -26,7 +26,7 @@ returns-clause-unfit_stops g c told quiet later refusal made refused =
     (c.write_all.ensures.unfit_stops told quiet kept last refusal (search rules) (search rules) (rw (bounds, layout, payload, ap (λ v. v.kept) c.self.view_is, sym same) it))
 
 pub invariant_of-self-in-Err : goal.invariant_of-self-in-Err
-invariant_of-self-in-Err g c = (c.in_ok-payload.ensures.standing, search rules)
+invariant_of-self-in-Err g c = (c.in_ok-payload.ensures.standing.0, c.in_ok-payload.ensures.standing.1, search rules)
 
 pub returns-clause-holds : goal.returns-clause-holds
 returns-clause-holds g c told none_wrong =

@@ -12,4 +12,4 @@ returns-clause-later c =
     let limits = c.units-there.ensures.limits in
     let told : c.push.new.self.items ≡ DropUnit text ∷ [] = search rules in
     let later : Workspace = record { targets = kept.targets; units = without_named text kept.units } in
-    (later, ap (λ (cs : List Change). changed_by cs kept) told, record { targets = limits.targets; units = omega (arith, without_few text kept.units, limits.units) })
+    (later, ap (λ (cs : List Change). changed_by cs kept) told, record { targets = limits.targets; units = omega (arith, without_few text kept.units, limits.units) }, c.dropping_stays_typed.ensures kept text c.units-there.ensures.in_order c.units-there.ensures.typed)

@@ -1,10 +1,12 @@
 -- What stands in a unit as a call is among what it calls.
 use Rattle.std.proofs.Common.{◌≡◌, ◌∙◌, ℕ, Bool, true, false, zero, suc, List, [], ◌∷◌, ◌++◌, map, Option, Some, None, ap, sym, subst, refl, arith}
-use Rattle.std.specs.Prelude.{nat_le, if◌then◌else◌}
+use Rattle.std.specs.Prelude.{◌≤◌, nat_le, if◌then◌else◌}
 use Rattle.std.specs.List.{AllByRecursion, Contains}
 use Rattle.std.specs.declared.cmp.Ordering.{Ordering}
 use Rattle.std.specs.declared.cmp.Ordering.TheVariants.{Less, Equal, Greater}
 use Rattle.std.specs.Ordering.{match_ordering}
+use Rattle.std.proofs.lemmas.Bool.Decides.{nat_tests}
+use Rattle.std.proofs.lemmas.Map.Lookups.{exact_bytes}
 use Rattle.abc_tree.specs.Lists.{flat}
 use Rattle.abc_tree.specs.Lined.{Lined, at, upto}
 use Rattle.abc_tree.specs.Templates.{template_cmp, template_text}
@@ -27,9 +29,6 @@ use Rattle.abc_tree.specs.declared.commands.Alternative.{Alternative, fold-Alter
 use Rattle.abc_tree.specs.declared.commands.Refinement.{Refinement}
 use Rattle.abc_tree.specs.declared.commands.Unit.{Unit as Routine}
 use Rattle.abc_tree.specs.Calls.{Calls, At, begins_with_place, template_first, in_text_order, piece_calls, fill_calls, pair_calls, expression_calls, expression_by, test_calls, test_by, part_by, test_if_any_by, node_calls, action_calls, alternative_calls, action_by, refinement_by, unit_by, calls_in_unit, unit_nodes, with_call, with_calls, called_upto}
-use Rattle.abc_groups.specs.Program.{texts}
-use Rattle.abc_groups.proofs.Texts.{one_text}
-use Rattle.abc_check.specs.Cuts.{NodesAreCalled}
 
 -- ---- each of two lists
 
@@ -389,8 +388,11 @@ to_upto P n (x ∷ xs) a = by_line (nat_le x.0 n) refl (to_upto P n xs a.1)
 
 -- ---- what is called has each
 
+abbrev texts : Calls → List (List ℕ)
+texts = map template_text
+
 -- its text is among these
-abbrev IsNoted : Calls → Template → Type 0
+abbrev pub IsNoted : Calls → Template → Type 0
 IsNoted found t = Contains (texts found) (template_text t)
 
 later : (x : Template) (xs : Calls) (t : Template) → IsNoted xs t → IsNoted (x ∷ xs) t
@@ -405,7 +407,7 @@ noted_here t (x ∷ xs) = by_order (template_cmp x t) refl (noted_here t xs)
   where
     by_order : (o : Ordering) → template_cmp x t ≡ o → IsNoted (with_call t xs) t → IsNoted (match_ordering o (x ∷ with_call t xs) ((if false then t else x) ∷ xs) (t ∷ x ∷ xs)) t
     by_order Less is rest = later x (with_call t xs) t rest
-    by_order Equal is rest = first x xs t (one_text (template_text x) (template_text t) is)
+    by_order Equal is rest = first x xs t (exact_bytes (template_text x) (template_text t) is)
     by_order Greater is rest = first t (x ∷ xs) t refl
 
 still_noted : (u : Template) (found : Calls) (t : Template) → IsNoted found t → IsNoted (with_call u found) t
@@ -431,7 +433,42 @@ contained P [] t a (i, lt, e) = absurd (omega (arith, lt))
 contained P (u ∷ ts) t a (zero, lt, e) = subst P e a.0
 contained P (u ∷ ts) t a (suc i, lt, e) = contained P ts t a.1 (i, omega (arith, lt), e)
 
-pub nodes_called : NodesAreCalled
+pub nodes_called : (n : ℕ) (unit : Routine) (t : Template) → Contains (unit_nodes n unit) t → IsNoted (called_upto n unit) t
 nodes_called n unit t m =
     contained (IsNoted (called_upto n unit)) (unit_nodes n unit) t
     (to_upto (IsNoted (called_upto n unit)) n (unit_by in_text_order unit) (unit_kept (Counts (IsNoted (called_upto n unit)) n) unit (from_upto (IsNoted (called_upto n unit)) n (calls_in_unit unit) (noted_among (upto n (calls_in_unit unit)) [] (called_upto n unit) refl)))) m
+
+-- ---- on fewer lines
+
+pub le_less : (i m n : ℕ) → m ≤ n → nat_le i m ≡ true → nat_le i n ≡ false → ⊥
+le_less i m n le a b = grind (arith, nat_tests)
+
+module _ (P : Template → Type 0) where
+  each_fewer : (m n : ℕ) → m ≤ n → (xs : Lined Template) → AllByRecursion P (upto n xs) → AllByRecursion P (upto m xs)
+  each_fewer m n le [] a = tt
+  each_fewer m n le (x ∷ xs) a = by_tests (nat_le x.0 m) (nat_le x.0 n) refl refl (each_fewer m n le xs)
+    where
+      by_tests : (b c : Bool) → nat_le x.0 m ≡ b → nat_le x.0 n ≡ c → (AllByRecursion P (upto n xs) → AllByRecursion P (upto m xs)) → AllByRecursion P (upto m (x ∷ xs))
+      by_tests true false p q rest = absurd (le_less x.0 m n le p q)
+      by_tests false false p q rest = let f : AllByRecursion P (upto n xs) = rw q at a in rw p (rest f)
+      by_tests false true p q rest = let f : AllByRecursion P (x.1 ∷ upto n xs) = rw q at a in rw p (rest f.1)
+      by_tests true true p q rest = let f : AllByRecursion P (x.1 ∷ upto n xs) = rw q at a in rw p (f.0, rest f.1)
+
+  each_with : (t : Template) (found : Calls) → P t → AllByRecursion P found → AllByRecursion P (with_call t found)
+  each_with t [] p a = (p, tt)
+  each_with t (x ∷ xs) p a = by_order (template_cmp x t) (each_with t xs p a.1)
+    where
+      by_order : (o : Ordering) → AllByRecursion P (with_call t xs) → AllByRecursion P (match_ordering o (x ∷ with_call t xs) ((if false then t else x) ∷ xs) (t ∷ x ∷ xs))
+      by_order Less rest = (a.0, rest)
+      by_order Equal rest = a
+      by_order Greater rest = (p, a)
+
+  each_of_both : (us found : Calls) → AllByRecursion P us → AllByRecursion P found → AllByRecursion P (with_calls found us)
+  each_of_both [] found each a = a
+  each_of_both (u ∷ us) found each a = each_of_both us (with_call u found) each.1 (each_with u found each.0 a)
+
+-- what is called on fewer lines is by its text called on more
+pub called_fewer : (m n : ℕ) → m ≤ n → (unit : Routine) (t : Template) → Contains (called_upto m unit) t → IsNoted (called_upto n unit) t
+called_fewer m n le unit t at =
+    contained (IsNoted (called_upto n unit)) (called_upto m unit) t
+    (each_of_both (IsNoted (called_upto n unit)) (upto m (calls_in_unit unit)) [] (each_fewer (IsNoted (called_upto n unit)) m n le (calls_in_unit unit) (noted_among (upto n (calls_in_unit unit)) [] (called_upto n unit) refl)) tt) at
