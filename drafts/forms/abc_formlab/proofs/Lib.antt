@@ -1,0 +1,4 @@
+pub mod CommonForms
+pub mod Keeping
+pub mod OneForm
+pub mod Wholes

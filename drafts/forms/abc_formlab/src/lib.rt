@@ -1,0 +1,11 @@
+//! Scratch: laws of forms that are kept.
+#![tactic(auto)]
+ghost use Rattle.abc_formlab.specs.LabLaws.{OneFormLaw, MoreLaw, WholeLaw, RestLaw};
+
+/// Forms of the same types are one form.
+pub fn one_form()
+    ensures one { OneFormLaw }
+    ensures more { MoreLaw }
+    ensures rest { RestLaw }
+    ensures whole { WholeLaw }
+{}

@@ -1,0 +1,5 @@
+-- Steps of the code, in words that no public clause uses.
+pub mod Heights
+pub mod Kept
+pub mod Merging
+pub mod Printing

@@ -1,0 +1,4 @@
+pub mod Applying
+pub mod Listing
+pub mod Merging
+pub mod Turning
