@@ -1,4 +1,0 @@
-pub mod CommonForms
-pub mod Keeping
-pub mod OneForm
-pub mod Wholes

@@ -1,4 +1,0 @@
-pub mod Applying
-pub mod Listing
-pub mod Merging
-pub mod Turning
