@@ -1,0 +1,5 @@
+pub mod Columns
+pub mod CommonForms
+pub mod Keeping
+pub mod OneForm
+pub mod Wholes
