@@ -1,3 +1,0 @@
-pub mod Falls
-pub mod Tree
-pub mod View

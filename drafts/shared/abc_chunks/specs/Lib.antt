@@ -1,3 +1,0 @@
-pub mod formers
-pub mod inner
-pub mod Towers
