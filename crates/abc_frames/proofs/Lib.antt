@@ -1,3 +1,4 @@
+pub mod Absent
 pub mod Applying
 pub mod Listing
 pub mod Merging

@@ -11,7 +11,7 @@ use Rattle.abc_num.specs.Text.{text_cmp, text_eq}
 use Rattle.abc_num.specs.Names.{with_name}
 use Rattle.abc_num.proofs.Texts.{text_eq-Decides}
 use Rattle.abc_value.specs.Tree.{Tree}
-use Rattle.abc_frames.specs.View.{frames_of}
+use Rattle.abc_frames.specs.View.{SharedFrame, frames_of}
 use Rattle.abc_frames.specs.Maps.{IsRising, current, with_current}
 
 in_both : (x t : List ℕ) (xs ys : List (List ℕ)) → AllByRecursion (λ y. text_cmp x y ≡ Less) (xs ++ t ∷ ys) → text_cmp x t ≡ Less
@@ -43,16 +43,16 @@ name_turn all names left rest new t copy inv next same sorted now =
     ap (λ ns. ns ++ rest) (now ∙ ap (with_name names) same ∙ name_joins names t rest (subst P (sym whole) sorted)) ∙ append_assoc names (t ∷ []) rest ∙ whole
 
 -- ---- the current frame
-pub frames_set : (ms : List (BTreeMap ℕ Tree)) (i : ℕ) (m : BTreeMap ℕ Tree) → frames_of (slice_set ms i m) ≡ slice_set (frames_of ms) i m.entries
+pub frames_set : (ms : List SharedFrame) (i : ℕ) (m : SharedFrame) → frames_of (slice_set ms i m) ≡ slice_set (frames_of ms) i m.value.entries
 frames_set [] i m = refl
 frames_set (n ∷ ns) zero m = refl
-frames_set (n ∷ ns) (suc i) m = ap (λ fs. n.entries ∷ fs) (frames_set ns i m)
+frames_set (n ∷ ns) (suc i) m = ap (λ fs. n.value.entries ∷ fs) (frames_set ns i m)
 
-pub frames_length : (ms : List (BTreeMap ℕ Tree)) → length (frames_of ms) ≡ length ms
+pub frames_length : (ms : List SharedFrame) → length (frames_of ms) ≡ length ms
 frames_length [] = refl
 frames_length (m ∷ ms) = ap suc (frames_length ms)
 
-pub frames_at : (ms : List (BTreeMap ℕ Tree)) (i : ℕ) (d : BTreeMap ℕ Tree) → i < length ms → get_or (frames_of ms) i [] ≡ (get_or ms i d).entries
+pub frames_at : (ms : List SharedFrame) (i : ℕ) (d : SharedFrame) → i < length ms → get_or (frames_of ms) i [] ≡ (get_or ms i d).value.entries
 frames_at [] i d h = absurd (omega arith)
 frames_at (m ∷ ms) zero d h = refl
 frames_at (m ∷ ms) (suc i) d h = frames_at ms i d (omega arith)
@@ -64,22 +64,22 @@ set_same (f ∷ fs) zero h = refl
 set_same (f ∷ fs) (suc i) h = ap (λ gs. f ∷ gs) (set_same fs i (omega arith))
 
 -- what a change of the last map makes of the frames
-pub changed_current : (ms : List (BTreeMap ℕ Tree)) (fs : List (List (ℕ × Tree))) (n : ℕ) (m : BTreeMap ℕ Tree) (f : List (ℕ × Tree)) → frames_of ms ≡ fs → n ≡ length ms → m.entries ≡ f → frames_of (slice_set ms (n - 1) m) ≡ with_current f fs
+pub changed_current : (ms : List SharedFrame) (fs : List (List (ℕ × Tree))) (n : ℕ) (m : SharedFrame) (f : List (ℕ × Tree)) → frames_of ms ≡ fs → n ≡ length ms → m.value.entries ≡ f → frames_of (slice_set ms (n - 1) m) ≡ with_current f fs
 changed_current ms fs n m f is e same =
     let count : n ≡ length fs = e ∙ sym (frames_length ms) ∙ ap length is in
     frames_set ms (n - 1) m ∙ (λ i. slice_set (is i) (count i - 1) (same i))
 
-not_none : (ms : List (BTreeMap ℕ Tree)) (fs : List (List (ℕ × Tree))) → frames_of ms ≡ fs → fs ≢ [] → 0 < length ms
+not_none : (ms : List SharedFrame) (fs : List (List (ℕ × Tree))) → frames_of ms ≡ fs → fs ≢ [] → 0 < length ms
 not_none [] fs is some = absurd (some (sym is))
 not_none (m ∷ ms) fs is some = omega arith
 
-pub current_is : (ms : List (BTreeMap ℕ Tree)) (fs : List (List (ℕ × Tree))) (n : ℕ) (d : BTreeMap ℕ Tree) → frames_of ms ≡ fs → n ≡ length ms → fs ≢ [] → (get_or ms (n - 1) d).entries ≡ current fs
+pub current_is : (ms : List SharedFrame) (fs : List (List (ℕ × Tree))) (n : ℕ) (d : SharedFrame) → frames_of ms ≡ fs → n ≡ length ms → fs ≢ [] → (get_or ms (n - 1) d).value.entries ≡ current fs
 current_is ms fs n d is e some =
     let count : n ≡ length fs = e ∙ sym (frames_length ms) ∙ ap length is in
     sym (frames_at ms (n - 1) d (omega (arith, not_none ms fs is some))) ∙ (λ i. get_or (is i) (count i - 1) [])
 
 -- what stands there may be written back
-pub unchanged_current : (ms : List (BTreeMap ℕ Tree)) (fs : List (List (ℕ × Tree))) (n : ℕ) (m d : BTreeMap ℕ Tree) → frames_of ms ≡ fs → n ≡ length ms → fs ≢ [] → m.entries ≡ (get_or ms (n - 1) d).entries → frames_of (slice_set ms (n - 1) m) ≡ fs
+pub unchanged_current : (ms : List SharedFrame) (fs : List (List (ℕ × Tree))) (n : ℕ) (m d : SharedFrame) → frames_of ms ≡ fs → n ≡ length ms → fs ≢ [] → m.value.entries ≡ (get_or ms (n - 1) d).value.entries → frames_of (slice_set ms (n - 1) m) ≡ fs
 unchanged_current ms fs n m d is e some same =
     changed_current ms fs n m (current fs) is e (same ∙ current_is ms fs n d is e some) ∙ set_last fs some
   where
@@ -87,24 +87,24 @@ unchanged_current ms fs n m d is e some same =
     set_last [] some = absurd (some refl)
     set_last (f ∷ fs) some = set_same (f ∷ fs) (length (f ∷ fs) - 1) (omega arith)
 
-length_set : (ms : List (BTreeMap ℕ Tree)) (i : ℕ) (m : BTreeMap ℕ Tree) → length (slice_set ms i m) ≡ length ms
+length_set : (ms : List SharedFrame) (i : ℕ) (m : SharedFrame) → length (slice_set ms i m) ≡ length ms
 length_set [] i m = refl
 length_set (n ∷ ns) zero m = refl
 length_set (n ∷ ns) (suc i) m = ap suc (length_set ns i m)
 
-at_set : (ms : List (BTreeMap ℕ Tree)) (i : ℕ) (m : BTreeMap ℕ Tree) → i < length ms → get_or (slice_set ms i m) i m ≡ m
+at_set : (ms : List SharedFrame) (i : ℕ) (m : SharedFrame) → i < length ms → get_or (slice_set ms i m) i m ≡ m
 at_set [] i m h = absurd (omega arith)
 at_set (n ∷ ns) zero m h = refl
 at_set (n ∷ ns) (suc i) m h = at_set ns i m (omega arith)
 
 -- a map in order that takes the place of the last is the current frame, in order
-pub rising_current : (ms : List (BTreeMap ℕ Tree)) (fs : List (List (ℕ × Tree))) (n : ℕ) (m : BTreeMap ℕ Tree) → frames_of ms ≡ fs → n ≡ length ms → fs ≢ [] → IsRising m.entries → IsRising (current (frames_of (slice_set ms (n - 1) m)))
+pub rising_current : (ms : List SharedFrame) (fs : List (List (ℕ × Tree))) (n : ℕ) (m : SharedFrame) → frames_of ms ≡ fs → n ≡ length ms → fs ≢ [] → IsRising m.value.entries → IsRising (current (frames_of (slice_set ms (n - 1) m)))
 rising_current ms fs n m is e some rising =
     let set = slice_set ms (n - 1) m in
     let count : length (frames_of set) ≡ n = frames_length set ∙ length_set ms (n - 1) m ∙ sym e in
     let below : n - 1 < length ms = omega (arith, not_none ms fs is some) in
     let within : n - 1 < length set = omega (arith, length_set ms (n - 1) m) in
-    let last : current (frames_of set) ≡ m.entries = ap (λ k. get_or (frames_of set) (k - 1) []) count ∙ frames_at set (n - 1) m within ∙ ap (λ b. b.entries) (at_set ms (n - 1) m below) in
+    let last : current (frames_of set) ≡ m.value.entries = ap (λ k. get_or (frames_of set) (k - 1) []) count ∙ frames_at set (n - 1) m within ∙ ap (λ b. b.value.entries) (at_set ms (n - 1) m below) in
     subst IsRising (sym last) rising
 
 cloned : (ps qs : List (ℕ × Tree)) → AllZip (λ p q. (q.0 ≡ p.0) × (q.1 ≡ p.1)) ps qs → qs ≡ ps

@@ -1,11 +1,11 @@
 -- The changes between two states in order, name by name from the front.
-use Rattle.std.proofs.Common.{◌≡◌, ℕ, ◌+◌, ◌<◌, length, Bool, true, false, cond, ◌||◌, IsTrue, is_some, List, [], ◌∷◌, ◌++◌, Option, None, Some, refl, sym, ap, append_assoc, ◌∙◌, subst}
+use Rattle.std.proofs.Common.{◌≡◌, ℕ, true, cond, ◌||◌, is_some, List, [], ◌∷◌, ◌++◌, Option, None, Some, refl, sym, ap, ◌∙◌, subst}
 use Rattle.std.specs.List.{flat_map, AllByRecursion}
 use Rattle.std.specs.List.Sorted.{IsStrictlySortedBy}
 use Rattle.std.specs.Map.{keys_of}
 use Rattle.std.specs.declared.cmp.Ordering.{Ordering}
 use Rattle.std.specs.declared.cmp.Ordering.TheVariants.{Less, Equal, Greater}
-use Rattle.std.specs.Ordering.{nat_cmp, is_eq, ordering_reverse, ordering_then, match_ordering}
+use Rattle.std.specs.Ordering.{is_eq, ordering_reverse, ordering_then, match_ordering}
 use Rattle.std.specs.Cmp.{tied_itself}
 use Rattle.std.specs.Cmp.Lexicographic.{nat_list_cmp_total}
 use Rattle.std.proofs.lemmas.Cmp.{ranked}
@@ -13,7 +13,7 @@ use Rattle.std.specs.BTreeMap.{insert_entry}
 use Rattle.abc_num.specs.Text.{text_cmp}
 use Rattle.abc_value.specs.Tree.{Tree}
 use Rattle.abc_frames.specs.Maps.{Targets, AreRising, value_of, with_names, names_of_both, told, change_of, changes_of}
-use Rattle.abc_frames.specs.inner.Merging.{History, gone, come, lesser, front_of, left, behind}
+use Rattle.abc_frames.specs.inner.Merging.{History, gone, come, lesser, front_of, behind}
 
 -- ---- names in order
 then_equal : (a b : Ordering) → ordering_then a b ≡ Equal → (a ≡ Equal) × (b ≡ Equal)

@@ -1,10 +1,10 @@
 -- A turn of the pass over both states.
-use Rattle.std.proofs.Common.{◌≡◌, ℕ, ◌+◌, ◌<◌, length, List, [], ◌∷◌, ◌++◌, Option, None, Some, refl, sym, ap, append_assoc, ◌∙◌, subst}
+use Rattle.std.proofs.Common.{◌≡◌, ℕ, ◌+◌, ◌<◌, length, List, [], ◌++◌, Option, None, Some, refl, sym, ap, append_assoc, ◌∙◌, subst}
 use Rattle.abc_value.specs.Tree.{Tree}
 use Rattle.abc_frames.specs.declared.targets.TargetChange.{TargetChange}
 use Rattle.abc_frames.specs.Maps.{Targets, AreRising, AreRegular, told, changes_of}
 use Rattle.abc_frames.specs.inner.Merging.{History, front_of, left, behind, IsRegularIfAny}
-use Rattle.abc_frames.proofs.Merging.{IsFront, kept, first, front, front_changes, rising_behind}
+use Rattle.abc_frames.proofs.Merging.{IsFront, first, front, front_changes, rising_behind}
 use Rattle.abc_frames.proofs.Applying.{regular_front, fewer}
 
 -- where the pass stands: these changes are told, and these entries are left

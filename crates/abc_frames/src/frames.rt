@@ -8,18 +8,20 @@ use abc_value::Value;
 use std::alloc::Global;
 use std::collections::BTreeMap;
 use std::marker::Model;
+use std::rc::Rc;
 
-/// A finite map from numbers of names to values for each unit call that is under way; the last is the current frame.
+/// A finite map from numbers of names to values for each unit call that is under way; the last is the current frame. An old
+/// state is a further owner of its map, and what has another owner is copied before it is changed.
 #[derive(Drop)]
 pub struct Frames {
     alloc: Global,
-    frames: Vec<BTreeMap<u32, Value>>,
+    frames: Vec<Rc<BTreeMap<u32, Value>>>,
 }
 
 /// An old state of the current frame.
 #[derive(Drop)]
 pub struct KeptFrame {
-    values: BTreeMap<u32, Value>,
+    values: Rc<BTreeMap<u32, Value>>,
 }
 
 impl Model for Frames {
@@ -44,7 +46,7 @@ impl Model for KeptFrame {
 
     ghost coded = { coded_frame };
 
-    ghost view = { λ k. k.values.entries };
+    ghost view = { λ k. k.values.value.entries };
 }
 
 impl Frames {
@@ -63,7 +65,8 @@ impl Frames {
         ensures ok { OnOk result (self.new ≡ self.old ++ [] ∷ []) }
         ensures err { OnErr result (self.new ≡ self.old) }
     {
-        self.frames.push(BTreeMap::new(self.alloc))?;
+        let frame = Rc::new(self.alloc, BTreeMap::new(self.alloc))?;
+        self.frames.push(frame)?;
         Ok(())
     }
 
@@ -95,8 +98,8 @@ impl Frames {
         ensures rising { IsRising (current self.new) }
     {
         let last = self.frames.len() - 1;
-        self.frames[last].insert(n, v)?;
-        Ok(())
+        let frame = &mut self.frames[last];
+        set_in(frame, n, v)
     }
 
     /// Takes the value of the name of this number away from the current frame, and answers it. None where it has none; then
@@ -109,7 +112,8 @@ impl Frames {
         ensures rising { IsRising (current self.new) }
     {
         let last = self.frames.len() - 1;
-        Ok(self.frames[last].remove(&n))
+        let frame = &mut self.frames[last];
+        drop_in(frame, n)
     }
 
     /// An old state: the current frame as it is now.
@@ -131,4 +135,30 @@ impl Frames {
         let last = self.frames.len() - 1;
         self.frames[last] = values;
     }
+}
+
+/// Gives the name of this number its value in one frame; a frame with another owner is copied first.
+fn set_in(frame: &mut Rc<BTreeMap<u32, Value>>, n: u32, v: Value) -> Result<(), OutOfMemory>
+    ensures ok { OnOk result (frame.new.value.entries ≡ with_value_at n v frame.old.value.entries) }
+    ensures err { OnErr result (frame.new.value.entries ≡ frame.old.value.entries) }
+    ensures rising { IsRising frame.new.value.entries }
+{
+    // Its clause tells that the numbers stand in order.
+    let _count = frame.len();
+    let values = Rc::make_mut(frame)?;
+    values.insert(n, v)?;
+    Ok(())
+}
+
+/// Takes the value of the name of this number away from one frame; a frame with another owner is copied first.
+fn drop_in(frame: &mut Rc<BTreeMap<u32, Value>>, n: u32) -> Result<Option<Value>, OutOfMemory>
+    ensures value { IfOk result (λ o. o ≡ value_at n frame.old.value.entries) }
+    ensures ok { OnOk result (frame.new.value.entries ≡ without_at n frame.old.value.entries) }
+    ensures err { OnErr result (frame.new.value.entries ≡ frame.old.value.entries) }
+    ensures rising { IsRising frame.new.value.entries }
+{
+    // Its clause tells that the numbers stand in order.
+    let _count = frame.len();
+    let values = Rc::make_mut(frame)?;
+    Ok(values.remove(&n))
 }

@@ -4,6 +4,7 @@ ghost use Rattle.std.specs.Option.{option_map};
 ghost use Rattle.std.specs.Map.{keys_of};
 ghost use Rattle.std.specs.Map.Iter.{deref_pair};
 ghost use Rattle.abc_frames.specs.Maps.{AreRising, AreRegular, value_of, with_value, without, told, changes_of, is_same, applied};
+ghost use Rattle.abc_frames.specs.View.{targets_of};
 ghost use Rattle.abc_frames.specs.inner.Merging.{shown, front_of, lesser, left, behind, IsRegularIfAny};
 
 use abc_num::{Names, OutOfMemory, Text};
@@ -13,18 +14,20 @@ use std::cmp::Ordering;
 use std::collections::BTreeMap;
 use std::collections::btree_map::Iter;
 use std::marker::Model;
+use std::rc::Rc;
 
-/// A finite map from names to values, in order of the bytes of the names.
+/// A finite map from names to values, in order of the bytes of the names. An old state is a further owner of the map, and what
+/// has another owner is copied before it is changed. No map is no targets.
 #[derive(Drop)]
 pub struct Targets {
     alloc: Global,
-    values: BTreeMap<Text, Value>,
+    values: Option<Rc<BTreeMap<Text, Value>>>,
 }
 
 /// An old state of targets.
 #[derive(Drop)]
 pub struct Kept {
-    values: BTreeMap<Text, Value>,
+    values: Option<Rc<BTreeMap<Text, Value>>>,
 }
 
 /// What has become of one target: its value now, or None where it has none any more.
@@ -37,25 +40,25 @@ pub struct TargetChange {
 impl Model for Targets {
     ghost use Rattle.std.specs.Prelude.{List, ℕ};
     ghost use Rattle.abc_value.specs.Tree.{Tree};
-    ghost use Rattle.abc_frames.specs.View.{coded_targets};
+    ghost use Rattle.abc_frames.specs.View.{coded_targets, targets_of};
 
     ghost Value = { List (List ℕ × Tree) };
 
     ghost coded = { coded_targets };
 
-    ghost view = { λ t. t.values.entries };
+    ghost view = { λ t. targets_of t.values };
 }
 
 impl Model for Kept {
     ghost use Rattle.std.specs.Prelude.{List, ℕ};
     ghost use Rattle.abc_value.specs.Tree.{Tree};
-    ghost use Rattle.abc_frames.specs.View.{coded_targets};
+    ghost use Rattle.abc_frames.specs.View.{coded_targets, targets_of};
 
     ghost Value = { List (List ℕ × Tree) };
 
     ghost coded = { coded_targets };
 
-    ghost view = { λ k. k.values.entries };
+    ghost view = { λ k. targets_of k.values };
 }
 
 impl Targets {
@@ -65,7 +68,7 @@ impl Targets {
     {
         Targets {
             alloc,
-            values: BTreeMap::new(alloc),
+            values: None,
         }
     }
 
@@ -74,9 +77,14 @@ impl Targets {
         ensures value { option_map (λ v. v.now) result ≡ value_of n.now self.now }
         ensures rising { AreRising self.now }
     {
-        // Its clause tells that the names stand in order.
-        let _count = self.values.len();
-        self.values.get(n)
+        match &self.values {
+            Some(values) => {
+                // Its clause tells that the names stand in order.
+                let _count = values.len();
+                values.get(n)
+            }
+            None => None,
+        }
     }
 
     /// How many names have a value.
@@ -84,7 +92,10 @@ impl Targets {
         ensures count { result ≡ length self.now }
         ensures rising { AreRising self.now }
     {
-        self.values.len()
+        match &self.values {
+            Some(values) => values.len(),
+            None => 0,
+        }
     }
 
     /// Gives the name its value, in place of an old one.
@@ -93,8 +104,11 @@ impl Targets {
         ensures err { OnErr result (self.new ≡ self.old) }
         ensures rising { AreRising self.new }
     {
-        self.values.insert(n, v)?;
-        Ok(())
+        let Some(values) = &mut self.values else {
+            self.values = Some(one_target(self.alloc, n, v)?);
+            return Ok(());
+        };
+        set_in(values, n, v)
     }
 
     /// Takes the value of the name away, and answers it. None where it has none; then the map stays as it is.
@@ -104,7 +118,10 @@ impl Targets {
         ensures err { OnErr result (self.new ≡ self.old) }
         ensures rising { AreRising self.new }
     {
-        Ok(self.values.remove(n))
+        let Some(values) = &mut self.values else {
+            return Ok(None);
+        };
+        drop_in(values, n)
     }
 
     /// The names, in order of their bytes.
@@ -112,23 +129,21 @@ impl Targets {
         ensures names { IfOk result (λ names. names ≡ keys_of self.now) }
         ensures rising { AreRising self.now }
     {
-        let mut names = Names::new(self.alloc);
-        for name in self.values.keys() {
-            if names.len() >= u32::MAX as usize {
-                return Err(OutOfMemory);
-            }
-            names.number(name.clone()?)?;
+        match &self.values {
+            Some(values) => names_in(self.alloc, values),
+            None => Ok(Names::new(self.alloc)),
         }
-        Ok(names)
     }
 
     /// An old state: the map as it is now.
     pub fn keep(&self) -> Result<Kept, OutOfMemory>
         ensures { IfOk result (λ kept. kept ≡ self.now) }
     {
-        Ok(Kept {
-            values: self.values.clone()?,
-        })
+        let values = match &self.values {
+            Some(values) => Some(values.clone()?),
+            None => None,
+        };
+        Ok(Kept { values })
     }
 
     /// The names whose value differs from that of an old state, in order of their bytes, each with what it has now. One pass
@@ -139,7 +154,10 @@ impl Targets {
         ensures rising { AreRising before.now × AreRising self.now }
         ensures regular { IfOk result (λ _. AreRegular before.now × AreRegular self.now) }
     {
-        changes_between(self.alloc, &before.values, &self.values)
+        let none = BTreeMap::new(self.alloc);
+        let old = map_or(&before.values, &none);
+        let new = map_or(&self.values, &none);
+        changes_between(self.alloc, old, new)
     }
 
     /// Goes back to an old state. This takes no memory.
@@ -149,6 +167,71 @@ impl Targets {
         let Kept { values } = k;
         self.values = values;
     }
+}
+
+/// The map of targets, or the one without any.
+fn map_or<'a>(
+    values: &'a Option<Rc<BTreeMap<Text, Value>>>,
+    none: &'a BTreeMap<Text, Value>,
+) -> &'a BTreeMap<Text, Value>
+    requires { none.now.entries ≡ [] }
+    ensures { result.now.entries ≡ targets_of values.now }
+{
+    match values {
+        Some(values) => values,
+        None => none,
+    }
+}
+
+/// The map of one target.
+fn one_target(alloc: Global, n: Text, v: Value) -> Result<Rc<BTreeMap<Text, Value>>, OutOfMemory>
+    ensures ok { IfOk result (λ m. m.value.entries ≡ with_value n v []) }
+    ensures rising { IfOk result (λ m. AreRising m.value.entries) }
+{
+    let mut values = BTreeMap::new(alloc);
+    values.insert(n, v)?;
+    Ok(Rc::new(alloc, values)?)
+}
+
+/// Gives the name its value in a map; a map with another owner is copied first.
+fn set_in(values: &mut Rc<BTreeMap<Text, Value>>, n: Text, v: Value) -> Result<(), OutOfMemory>
+    ensures ok { OnOk result (values.new.value.entries ≡ with_value n v values.old.value.entries) }
+    ensures err { OnErr result (values.new.value.entries ≡ values.old.value.entries) }
+    ensures rising { AreRising values.new.value.entries }
+{
+    // Its clause tells that the names stand in order.
+    let _count = values.len();
+    let map = Rc::make_mut(values)?;
+    map.insert(n, v)?;
+    Ok(())
+}
+
+/// Takes the value of the name away from a map; a map with another owner is copied first.
+fn drop_in(values: &mut Rc<BTreeMap<Text, Value>>, n: &Text) -> Result<Option<Value>, OutOfMemory>
+    ensures value { IfOk result (λ o. o ≡ value_of n.now values.old.value.entries) }
+    ensures ok { OnOk result (values.new.value.entries ≡ without n.now values.old.value.entries) }
+    ensures err { OnErr result (values.new.value.entries ≡ values.old.value.entries) }
+    ensures rising { AreRising values.new.value.entries }
+{
+    // Its clause tells that the names stand in order.
+    let _count = values.len();
+    let map = Rc::make_mut(values)?;
+    Ok(map.remove(n))
+}
+
+/// The names of a map, in order of their bytes.
+fn names_in(alloc: Global, values: &BTreeMap<Text, Value>) -> Result<Names, OutOfMemory>
+    ensures names { IfOk result (λ names. names ≡ keys_of values.now.entries) }
+    ensures rising { AreRising values.now.entries }
+{
+    let mut names = Names::new(alloc);
+    for name in values.keys() {
+        if names.len() >= u32::MAX as usize {
+            return Err(OutOfMemory);
+        }
+        names.number(name.clone()?)?;
+    }
+    Ok(names)
 }
 
 /// The changes between two states, by one pass over both.

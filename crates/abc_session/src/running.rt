@@ -135,10 +135,11 @@ pub fn run_within<H: Host>(alloc: Global, words: &[&str], host: &mut H, b: &Boun
 
 /// Runs with the bounds of the product: 2^40 bytes of image and of input. This is the whole program.
 ///
-/// The theorem of the program is the clause `headline`: whenever it is stopped, it had said a front of the output of the
-/// session over its input, and whatever image the stop left in the store opens to the workspace after some of the items.
-/// These are all the items of whose reply a byte was said, and at most one more than those whose reply was said whole. Where
-/// the words ask for a made input, only its summary is said, and all else is untouched.
+/// The theorem of the program is the clause `headline`, which is said for every check that tells type lines exactly: whenever
+/// the program is stopped, it had said a front of the output of the session over its input, and whatever image the stop left
+/// in the store opens to the workspace after some of the items. These are all the items of whose reply a byte was said, and at
+/// most one more than those whose reply was said whole. Where the words ask for a made input, only its summary is said, and
+/// all else is untouched.
 pub fn run<H: Host>(alloc: Global, words: &[&str], host: &mut H) -> u8
     ensures headline { (check : Check) → IsExact check → made_named (map (λ word. word.now) words.now) ≡ None → H.tells_image → H.tells_said → H.tells_input → IsStill H.clock H.stopped host.old (H.now host.old).image
         → (work : Work) → IsStart (H.now host.old).image work

@@ -62,8 +62,8 @@ impl Store {
     /// Opens the store. An image of at most 65 bytes is made fresh; a longer one is only read, each record once, and then its
     /// workspace is checked: one that no types fit is wrong at the start of its region.
     ///
-    /// Errors: `NotAStore` with the place of what is wrong, and `Memory`, which leave the store as it was; `StoreFault` where a
-    /// call of the host failed.
+    /// Errors: `NotAStore` with the place of what is wrong, which leaves the store as it was; `Memory`, after which an image of at
+    /// most 65 bytes may have been made fresh; `StoreFault` where a call of the host failed.
     pub fn begin<H: Host>(alloc: Global, host: &mut H, b: &Bounds) -> Result<Store, BeginFault>
         ensures opened { H.tells_image → IfOk result (λ store. OpensTo (H.now host.old).image store.kept) }
         ensures holds { H.tells_image → IfOk result (λ store. Holds (H.now host.new).image (work_of store)) }
@@ -180,9 +180,10 @@ impl Store {
         self.journal.sound()
     }
 
-    /// Keeps these changes, all of them or none. Once the answer is Ok, each stop leaves an image that opens to the workspace
-    /// with them. All memory is taken before the first write. Where the record doesn't fit, a checkpoint of the workspace is
-    /// tried first; a checkpoint that is due after it is taken where it fits.
+    /// Keeps these changes, all of them or none. The workspace with them is within the limits of a store, and types fit it. Once
+    /// the answer is Ok, each stop leaves an image that opens to that workspace. All memory is taken before the first write.
+    /// Where the record doesn't fit, a checkpoint of the workspace is tried first; a checkpoint that is due after it is taken
+    /// where it fits.
     ///
     /// Errors: `TooLarge` where the spelling of the changes has more than 2^28 bytes, and `Memory`, which change nothing;
     /// `StoreFull` where the checkpoint doesn't fit, or the record doesn't fit after it: then the workspace is as before, and

@@ -6,6 +6,7 @@ ghost use Rattle.abc_store.specs.Workspace.{Workspace, changed_by, IsWithinLimit
 ghost use Rattle.abc_store.specs.Commit.{Holds};
 ghost use Rattle.abc_store.specs.View.{work_of};
 
+mod forged;
 mod units;
 
 use crate::{CommitFault, Store};

@@ -15,7 +15,7 @@ pub mod Deciding
 pub mod Opening
 pub mod Downward
 pub mod Gathering
-pub mod Asking
+pub mod Constraints
 pub mod Stamping
 pub mod Named
 pub mod Noting

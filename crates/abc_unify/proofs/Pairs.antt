@@ -1,7 +1,7 @@
 -- Pairs of two lists, one more at a time.
 use Rattle.std.proofs.Common.{◌≡◌, ℕ, zero, suc, ◌+◌, ◌<◌, List, [], ◌∷◌, ◌++◌, length, take, get_or, ap, arith, refl, add-one}
 use Rattle.abc_terms.specs.declared.term.VarId.{VarId}
-use Rattle.abc_unify.specs.declared.kind.Ask.TheVariants.{Equal}
+use Rattle.abc_unify.specs.declared.kind.Constraint.TheVariants.{Equal}
 use Rattle.abc_unify.specs.inner.Kinds.{pairs}
 
 pairs_suc : (xs ys : List VarId) (i : ℕ) (d : VarId) → i < length xs → i < length ys → pairs (take (suc i) xs) (take (suc i) ys) ≡ pairs (take i xs) (take i ys) ++ Equal (get_or xs i d) (get_or ys i d) ∷ []

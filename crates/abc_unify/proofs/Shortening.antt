@@ -3,13 +3,13 @@ use Rattle.std.proofs.Common.{◌≡◌, ℕ, ◌+◌, ◌-◌, ◌<◌, ◌≤�
 use Rattle.std.proofs.Math.ListN.{length-set, length-drop, get_or-append}
 use Rattle.std.proofs.lemmas.List.{get_or-drop}
 use Rattle.std.proofs.lemmas.List.Sums.{sum_by-set}
-use Rattle.std.specs.List.{All, sum_by}
+use Rattle.std.specs.List.{All}
 use Rattle.abc_num.specs.declared.types.Ground.{Ground}
 use Rattle.abc_terms.specs.declared.term.VarId.{VarId}
 use Rattle.abc_unify.specs.declared.kind.Kind.TheVariants.{Free}
 use Rattle.abc_unify.specs.declared.kind.Slot.{Slot}
 use Rattle.abc_unify.specs.declared.kind.Slot.TheVariants.{Link, Root}
-use Rattle.abc_unify.specs.declared.kind.Ask.{Ask}
+use Rattle.abc_unify.specs.declared.kind.Constraint.{Constraint}
 use Rattle.abc_unify.specs.declared.log.Entry.{Entry}
 use Rattle.abc_unify.specs.inner.Logs.{EntryIn, IsLogged}
 use Rattle.abc_unify.specs.inner.Slots.{SlotHolds, Meets, SlotsIn, SlotIn, IsShortened, LeadsPast, KeepsSolutions, slot_weight}
@@ -66,7 +66,7 @@ halved slots a beyond h inside (next, one, two) = record {
     second_kept : (v : ℕ → Ground) → Meets v (set slots a (Link beyond)) → v next.0 ≡ v beyond.0
     second_kept v m = subst (λ s. SlotHolds v (v next.0) s) (get_or-set_other slots a next.0 (Link beyond) (Root Free) (λ e. absurd (omega (arith, fall, e))) ∙ two) (m next.0)
 
-pub shortened_keeps : (slots slots2 : List Slot) (work : List Ask) → IsShortened slots slots2 → KeepsSolutions slots work slots2 work
+pub shortened_keeps : (slots slots2 : List Slot) (work : List Constraint) → IsShortened slots slots2 → KeepsSolutions slots work slots2 work
 shortened_keeps slots slots2 work short = record {
   onward = λ v m w. (short.onward v m, w);
   back = λ v m w. (short.back v m, w);

@@ -22,8 +22,8 @@ use Rattle.abc_unify.specs.declared.kind.Kind.{Kind}
 use Rattle.abc_unify.specs.declared.kind.Kind.TheVariants.{Free}
 use Rattle.abc_unify.specs.declared.kind.Slot.{Slot}
 use Rattle.abc_unify.specs.declared.kind.Slot.TheVariants.{Link, Root}
-use Rattle.abc_unify.specs.declared.kind.Ask.{Ask}
-use Rattle.abc_unify.specs.inner.Kinds.{AskHolds, AsksHold, KindIn, children}
+use Rattle.abc_unify.specs.declared.kind.Constraint.{Constraint}
+use Rattle.abc_unify.specs.inner.Kinds.{ConstraintHolds, ConstraintsHold, KindIn, children}
 use Rattle.abc_unify.specs.inner.Slots.{SlotHolds, Meets, SlotsIn, SlotIn, KeepsSolutions, HasNoSolution, follow, root_within, root_of, IsAmong, IsChild, IsRanked}
 use Rattle.abc_unify.specs.Graphs.{HasSolution, IsUnsolvable}
 use Rattle.abc_unify.specs.inner.States.{IsSolved}
@@ -36,41 +36,41 @@ use Rattle.abc_unify.proofs.Walking.{no_child}
 pub whole : {X : Type 0} (n : ℕ) (xs ys : List X) → length xs ≡ n → take n (xs ++ ys) ≡ xs
 whole n xs ys h = grind (arith, common_steps)
 
--- what is asked instead of the demand is taken into the slots
-pub solved_with : (slots slots2 : List Slot) (demands : List Demand) (d : Demand) (q : Ask) → IsSolved slots demands → DemandIn (length slots) d → length slots2 ≡ length slots → ((v : ℕ → Ground) → Holds v d ↔ AskHolds v q) → SlotsIn slots2 → KeepsSolutions slots (q ∷ []) slots2 [] → (rank : ℕ → ℕ) × IsRanked slots2 rank → IsSolved slots2 (demands ++ d ∷ [])
+-- the constraint that the demand is, is taken into the slots
+pub solved_with : (slots slots2 : List Slot) (demands : List Demand) (d : Demand) (q : Constraint) → IsSolved slots demands → DemandIn (length slots) d → length slots2 ≡ length slots → ((v : ℕ → Ground) → Holds v d ↔ ConstraintHolds v q) → SlotsIn slots2 → KeepsSolutions slots (q ∷ []) slots2 [] → (rank : ℕ → ℕ) × IsRanked slots2 rank → IsSolved slots2 (demands ++ d ∷ [])
 solved_with slots slots2 demands d q old made count same inside keeps ranks = record {
   few = omega (arith, old.few);
   inside = inside;
   made = subst (λ n. All (DemandIn n) (demands ++ d ∷ [])) (sym count) (All-append (DemandIn (length slots)) demands (d ∷ []) old.made (All-one (DemandIn (length slots)) d made));
-  from_demands = λ v m. (keeps.onward v (old.from_demands v (All-front (Holds v) demands (d ∷ []) m)) (All-one (AskHolds v) q ((same v).0 (All-head (Holds v) d [] (All-behind (Holds v) demands (d ∷ []) m))))).0;
+  from_demands = λ v m. (keeps.onward v (old.from_demands v (All-front (Holds v) demands (d ∷ []) m)) (All-one (ConstraintHolds v) q ((same v).0 (All-head (Holds v) d [] (All-behind (Holds v) demands (d ∷ []) m))))).0;
   to_demands = λ v m.
-      let r : Meets v slots × AsksHold v (q ∷ []) = keeps.back v m (All-nil (AskHolds v)) in
-      All-append (Holds v) demands (d ∷ []) (old.to_demands v r.0) (All-one (Holds v) d ((same v).1 (All-head (AskHolds v) q [] r.1)));
+      let r : Meets v slots × ConstraintsHold v (q ∷ []) = keeps.back v m (All-nil (ConstraintHolds v)) in
+      All-append (Holds v) demands (d ∷ []) (old.to_demands v r.0) (All-one (Holds v) d ((same v).1 (All-head (ConstraintHolds v) q [] r.1)));
   rank = ranks.0;
   ranked = ranks.1;
 }
 
 -- the same of some demands
-pub solved_with_all : (slots slots2 : List Slot) (demands more : List Demand) (asks : List Ask) → IsSolved slots demands → All (DemandIn (length slots)) more → length slots2 ≡ length slots → ((v : ℕ → Ground) → MeetsAll v more ↔ AsksHold v asks) → SlotsIn slots2 → KeepsSolutions slots asks slots2 [] → (rank : ℕ → ℕ) × IsRanked slots2 rank → IsSolved slots2 (demands ++ more)
-solved_with_all slots slots2 demands more asks old made count same inside keeps ranks = record {
+pub solved_with_all : (slots slots2 : List Slot) (demands more : List Demand) (constraints : List Constraint) → IsSolved slots demands → All (DemandIn (length slots)) more → length slots2 ≡ length slots → ((v : ℕ → Ground) → MeetsAll v more ↔ ConstraintsHold v constraints) → SlotsIn slots2 → KeepsSolutions slots constraints slots2 [] → (rank : ℕ → ℕ) × IsRanked slots2 rank → IsSolved slots2 (demands ++ more)
+solved_with_all slots slots2 demands more constraints old made count same inside keeps ranks = record {
   few = omega (arith, old.few);
   inside = inside;
   made = subst (λ n. All (DemandIn n) (demands ++ more)) (sym count) (All-append (DemandIn (length slots)) demands more old.made made);
   from_demands = λ v m. (keeps.onward v (old.from_demands v (All-front (Holds v) demands more m)) ((same v).0 (All-behind (Holds v) demands more m))).0;
   to_demands = λ v m.
-      let r : Meets v slots × AsksHold v asks = keeps.back v m (All-nil (AskHolds v)) in
+      let r : Meets v slots × ConstraintsHold v constraints = keeps.back v m (All-nil (ConstraintHolds v)) in
       All-append (Holds v) demands more (old.to_demands v r.0) ((same v).1 r.1);
   rank = ranks.0;
   ranked = ranks.1;
 }
 
-pub clash_with_all : (slots : List Slot) (demands more : List Demand) (asks : List Ask) → IsSolved slots demands → ((v : ℕ → Ground) → MeetsAll v more ↔ AsksHold v asks) → HasNoSolution slots asks → IsUnsolvable (demands ++ more)
-clash_with_all slots demands more asks old same never v m =
+pub clash_with_all : (slots : List Slot) (demands more : List Demand) (constraints : List Constraint) → IsSolved slots demands → ((v : ℕ → Ground) → MeetsAll v more ↔ ConstraintsHold v constraints) → HasNoSolution slots constraints → IsUnsolvable (demands ++ more)
+clash_with_all slots demands more constraints old same never v m =
     never v (old.from_demands v (All-front (Holds v) demands more m)) ((same v).0 (All-behind (Holds v) demands more m))
 
-pub clash_with : (slots : List Slot) (demands : List Demand) (d : Demand) (q : Ask) → IsSolved slots demands → ((v : ℕ → Ground) → Holds v d ↔ AskHolds v q) → HasNoSolution slots (q ∷ []) → IsUnsolvable (demands ++ d ∷ [])
+pub clash_with : (slots : List Slot) (demands : List Demand) (d : Demand) (q : Constraint) → IsSolved slots demands → ((v : ℕ → Ground) → Holds v d ↔ ConstraintHolds v q) → HasNoSolution slots (q ∷ []) → IsUnsolvable (demands ++ d ∷ [])
 clash_with slots demands d q old same never v m =
-    never v (old.from_demands v (All-front (Holds v) demands (d ∷ []) m)) (All-one (AskHolds v) q ((same v).0 (All-head (Holds v) d [] (All-behind (Holds v) demands (d ∷ []) m))))
+    never v (old.from_demands v (All-front (Holds v) demands (d ∷ []) m)) (All-one (ConstraintHolds v) q ((same v).0 (All-head (Holds v) d [] (All-behind (Holds v) demands (d ∷ []) m))))
 
 pub solved_has_solution : (slots : List Slot) (demands : List Demand) → IsSolved slots demands → HasSolution demands
 solved_has_solution slots demands solved =

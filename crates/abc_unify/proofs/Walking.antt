@@ -16,9 +16,9 @@ use Rattle.abc_unify.specs.declared.kind.Kind.{Kind}
 use Rattle.abc_unify.specs.declared.kind.Kind.TheVariants.{Free, Number, Text, NumberOrText, ListOf, TableOf, TrainOf, CollectionOf, Compound}
 use Rattle.abc_unify.specs.declared.kind.Slot.{Slot}
 use Rattle.abc_unify.specs.declared.kind.Slot.TheVariants.{Link, Root}
-use Rattle.abc_unify.specs.declared.kind.Ask.TheVariants.{Is}
+use Rattle.abc_unify.specs.declared.kind.Constraint.TheVariants.{Is}
 use Rattle.abc_unify.specs.Outer.{types, IsTrain, IsCollection, IsText}
-use Rattle.abc_unify.specs.inner.Kinds.{Fits, AskHolds}
+use Rattle.abc_unify.specs.inner.Kinds.{Fits, ConstraintHolds}
 use Rattle.abc_unify.specs.inner.Slots.{SlotHolds, Meets, follow, root_within, root_of, IsRoot, IsAmong, IsChild, KeepsSolutions}
 use Rattle.abc_unify.specs.inner.Cycles.{LeadsTo, IsBelow, mark_weight, IsDone, Marked, IsOnCycle}
 use Rattle.abc_num.proofs.Parts.{All-front}
@@ -277,9 +277,9 @@ text_keeps slots top e h is all = record {
   onward = λ v m w.
       let here : IsTrain (out-Ground (v top)) (v e.0) = subst (λ s. SlotHolds v (v top) s) is (m top) in
       let there : IsText (v e.0) = subst (λ g. IsTrain g (v e.0)) (all v m) here in
-      (Meets-set v slots top (Root Text) h m (all v m), All-one (AskHolds v) (Is e Text) there);
+      (Meets-set v slots top (Root Text) h m (all v m), All-one (ConstraintHolds v) (Is e Text) there);
   back = λ v m w.
       let here : IsText (v top) = Meets-at_set v slots top (Root Text) h m in
-      let there : IsText (v e.0) = All-head (AskHolds v) (Is e Text) [] w in
-      (Meets-unset v slots top (Root Text) m (subst (λ s. SlotHolds v (v top) s) (sym is) (subst (λ g. IsTrain g (v e.0)) (sym here) there)), All-nil (AskHolds v));
+      let there : IsText (v e.0) = All-head (ConstraintHolds v) (Is e Text) [] w in
+      (Meets-unset v slots top (Root Text) m (subst (λ s. SlotHolds v (v top) s) (sym is) (subst (λ g. IsTrain g (v e.0)) (sym here) there)), All-nil (ConstraintHolds v));
 }

@@ -1,4 +1,4 @@
-//! Union-find: classes of equal variables, the root of a class, and what is known of it.
+//! Union-find: classes of equal variables. Each has a root, to which links lead, and which holds what is known of the class.
 ghost use Rattle.std.specs.Prelude.{◌≡◌, ℕ, ◌<◌, length, slice_index_or, IfOk};
 ghost use Rattle.abc_num.specs.declared.types.Ground.{Ground};
 ghost use Rattle.abc_unify.specs.inner.Slots.{SlotsIn, IsRoot, Meets, root_of};
@@ -36,7 +36,7 @@ pub fn kind_at(slots: &[Slot], root: VarId) -> &Kind
     }
 }
 
-/// The same kind once more.
+/// A copy of a kind.
 pub fn copy_of(alloc: Global, kind: &Kind) -> Result<Kind, AllocError>
     ensures { IfOk result (λ copy. copy ≡ kind.now) }
 {

@@ -8,7 +8,7 @@ ghost use Rattle.abc_unify.specs.Forms.{IsForm, AreForms, IsKnown};
 
 use crate::forms::{Form, Known, form_at};
 use crate::gather::forms_at;
-use crate::kind::{Ask, Kind};
+use crate::kind::{Constraint, Kind};
 use crate::state::State;
 use abc_num::OutOfMemory;
 use abc_terms::{Demand, Term, VarId};
@@ -118,7 +118,7 @@ impl Graph {
         ensures err { OnErr result (self.new ≡ self.old) }
     {
         self.state
-            .add(self.alloc, Demand::Equal(a, b), Ask::Equal(a, b))
+            .add(self.alloc, Demand::Equal(a, b), Constraint::Equal(a, b))
     }
 
     /// Demands that `a` is text of text, a list of `e`, or a table with associates `e`. After a fault the graph is as
@@ -134,7 +134,7 @@ impl Graph {
         self.state.add(
             self.alloc,
             Demand::Train(a, e),
-            Ask::Is(a, Kind::TrainOf(e)),
+            Constraint::Is(a, Kind::TrainOf(e)),
         )
     }
 
@@ -150,7 +150,7 @@ impl Graph {
         self.state.add(
             self.alloc,
             Demand::Collection(a, e),
-            Ask::Is(a, Kind::CollectionOf(e)),
+            Constraint::Is(a, Kind::CollectionOf(e)),
         )
     }
 
@@ -165,7 +165,7 @@ impl Graph {
         self.state.add(
             self.alloc,
             Demand::NumberOrText(a),
-            Ask::Is(a, Kind::NumberOrText),
+            Constraint::Is(a, Kind::NumberOrText),
         )
     }
 

@@ -23,27 +23,39 @@ pub enum Slot {
     Link(VarId),
 }
 
-/// What is still to be taken into the slots.
+/// What is still to be taken into the slots: a demand, or a part of one.
 #[derive(Drop)]
-pub enum Ask {
+pub enum Constraint {
     Equal(VarId, VarId),
     Is(VarId, Kind),
 }
 
-/// The result of merging what is known of a class with what is asked of it besides.
+/// The result of merging what is known of a class with a new constraint.
 #[derive(Drop)]
-pub enum Met {
+pub enum Merge {
+    /// No type is of both kinds.
     Clash,
-    Keep(More),
-    Put(Kind, More),
+    /// The kind that was held stays.
+    Keep(Residue),
+    /// This kind takes its place.
+    Put(Kind, Residue),
 }
 
-/// What is asked besides.
+/// The constraints that a merge leaves to be solved.
 #[derive(Drop)]
-pub enum More {
+pub enum Residue {
     Nothing,
-    One(Ask),
-    Two(Ask, Ask),
+    One(Constraint),
+    Two(Constraint, Constraint),
     /// The parts of the kind that was held are these.
     Parts(Vars),
+}
+
+/// How a step of solving went.
+#[derive(Clone, Copy)]
+pub enum Solving {
+    /// The slots and what is pending say the same as before.
+    Solved,
+    /// No types meet the slots and the constraints.
+    Clash,
 }

@@ -1,6 +1,7 @@
 //! Unification: which finite types numbered variables may have under a list of demands.
 #![tactic(auto)]
 
+mod acyclic;
 mod classes;
 mod cycle;
 mod forms;
@@ -10,10 +11,9 @@ mod kind;
 mod laws;
 mod log;
 mod marks;
-mod meet;
+mod merge;
 mod naming;
 mod node;
-mod settle;
 mod shorten;
 mod solve;
 mod state;

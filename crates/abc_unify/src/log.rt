@@ -1,4 +1,4 @@
-//! The trail: each write of a slot goes through `write`, which keeps what the slot was, so that it can be taken back.
+//! The trail: each write of a slot goes through `write`, which keeps what the slot was, so that backtracking can take it back.
 ghost use Rattle.std.specs.Prelude.{◌≡◌, ◌<◌, ◌≤◌, length, take, drop, slice_set, IfOk, OnErr};
 ghost use Rattle.std.specs.List.{All};
 ghost use Rattle.abc_unify.specs.inner.Slots.{SlotsIn};

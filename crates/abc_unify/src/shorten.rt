@@ -3,11 +3,11 @@ ghost use Rattle.std.specs.Prelude.{◌≡◌, ◌<◌, length, drop, slice_inde
 ghost use Rattle.std.specs.List.{All};
 ghost use Rattle.abc_terms.specs.Nodes.{AreIn};
 ghost use Rattle.abc_terms.specs.declared.term.VarId.{VarId};
-ghost use Rattle.abc_unify.specs.inner.Kinds.{AskIn, KindIn};
+ghost use Rattle.abc_unify.specs.inner.Kinds.{ConstraintIn, KindIn};
 ghost use Rattle.abc_unify.specs.inner.Slots.{SlotsIn, IsShortened, LeadsPast};
 ghost use Rattle.abc_unify.specs.inner.Logs.{IsLogged, EntryIn};
 
-use crate::kind::{Ask, Kind, Slot};
+use crate::kind::{Constraint, Kind, Slot};
 use crate::log::{Entry, write};
 use abc_terms::VarId;
 use std::alloc::AllocError;
@@ -82,16 +82,20 @@ fn shorten_parts(slots: &mut [Slot], log: &mut Vec<Entry>, kind: &Kind) -> Resul
     }
 }
 
-/// The same for those of which something is asked, and those that are named in it.
-pub fn shorten_asked(slots: &mut [Slot], log: &mut Vec<Entry>, ask: &Ask) -> Result<(), AllocError>
+/// The same for those that a constraint names.
+pub fn shorten_constrained(
+    slots: &mut [Slot],
+    log: &mut Vec<Entry>,
+    constraint: &Constraint,
+) -> Result<(), AllocError>
     requires slots { SlotsIn slots.old }
-    requires ask { AskIn (length slots.old) ask.now }
+    requires constraint { ConstraintIn (length slots.old) constraint.now }
     ensures shortened { IfOk result (λ _. IsShortened slots.old slots.new) }
     ensures logged { IsLogged slots.old log.old.items slots.new log.new.items }
 {
-    match ask {
-        Ask::Equal(a, b) => shorten_all(slots, log, &[*a, *b]),
-        Ask::Is(a, kind) => {
+    match constraint {
+        Constraint::Equal(a, b) => shorten_all(slots, log, &[*a, *b]),
+        Constraint::Is(a, kind) => {
             shorten(slots, log, *a)?;
             shorten_parts(slots, log, kind)?;
             Ok(())

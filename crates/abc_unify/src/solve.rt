@@ -1,79 +1,79 @@
-//! Takes what is asked into the slots, one step at a time.
-ghost use Rattle.std.specs.Prelude.{◌≡◌, ◌+◌, ◌<◌, ◌≤◌, [], ◌∷◌, ◌++◌, length, slice_index_or, IfOk, IsTrue};
-ghost use Rattle.abc_unify.specs.inner.Kinds.{AskIn, AsksIn, MoreFits, asks_of, pairs};
+//! Takes the pending constraints into the slots, one step at a time.
+ghost use Rattle.std.specs.Prelude.{◌≡◌, ◌+◌, ◌<◌, ◌≤◌, [], ◌∷◌, ◌++◌, length, slice_index_or, IfOk};
+ghost use Rattle.abc_unify.specs.inner.Kinds.{ConstraintIn, ConstraintsIn, ResidueFits, constraints_of, pairs};
 ghost use Rattle.abc_unify.specs.inner.Slots.{SlotsIn, IsRoot, Stepped, KeepsSolutions, weight};
 ghost use Rattle.abc_unify.specs.inner.Logs.{IsLogged};
 
 use crate::classes::{copy_of, find, kind_at};
-use crate::kind::{Ask, Kind, Met, More, Slot};
+use crate::kind::{Constraint, Kind, Merge, Residue, Slot, Solving};
 use crate::log::{Entry, write};
-use crate::meet::meet;
-use crate::shorten::{shorten_asked, shorten_written};
+use crate::merge::merge_kinds;
+use crate::shorten::{shorten_constrained, shorten_written};
 use abc_terms::VarId;
 use std::alloc::{AllocError, Global};
 
-/// Asks the parts of two compounds to be equal.
-fn push_pairs(work: &mut Vec<Ask>, held: &[VarId], asked: &[VarId]) -> Result<(), AllocError>
-    requires { length held.now ≡ length asked.now }
-    ensures { IfOk result (λ _. work.new.items ≡ work.old.items ++ pairs held.now asked.now) }
+/// Adds the constraints that the parts of two compounds are equal.
+fn push_pairs(work: &mut Vec<Constraint>, held: &[VarId], added: &[VarId]) -> Result<(), AllocError>
+    requires { length held.now ≡ length added.now }
+    ensures { IfOk result (λ _. work.new.items ≡ work.old.items ++ pairs held.now added.now) }
 {
     for i in 0..held.len() {
-        work.push(Ask::Equal(held[i], asked[i]))?;
+        work.push(Constraint::Equal(held[i], added[i]))?;
     }
     Ok(())
 }
 
-/// Asks what two kinds ask besides.
-fn push_more(work: &mut Vec<Ask>, held: &Kind, more: More) -> Result<(), AllocError>
-    requires { MoreFits held.now more }
-    ensures { IfOk result (λ _. work.new.items ≡ work.old.items ++ asks_of held.now more) }
+/// Adds the constraints that a merge left.
+fn push_residue(work: &mut Vec<Constraint>, held: &Kind, residue: Residue) -> Result<(), AllocError>
+    requires { ResidueFits held.now residue }
+    ensures { IfOk result (λ _. work.new.items ≡ work.old.items ++ constraints_of held.now residue) }
 {
-    match more {
-        More::Nothing => {}
-        More::One(first) => {
+    match residue {
+        Residue::Nothing => {}
+        Residue::One(first) => {
             work.push(first)?;
         }
-        More::Two(first, second) => {
+        Residue::Two(first, second) => {
             work.push(first)?;
             work.push(second)?;
         }
-        More::Parts(asked) => match held {
-            Kind::Compound(fields) => push_pairs(work, fields.as_slice(), asked.as_slice())?,
+        Residue::Parts(added) => match held {
+            Kind::Compound(fields) => push_pairs(work, fields.as_slice(), added.as_slice())?,
             _ => unreachable!(),
         },
     }
     Ok(())
 }
 
-/// Asks a variable to be of a kind. False is for a kind that it cannot be of.
+/// Merges a kind into that of a variable.
 fn narrow(
     slots: &mut [Slot],
     log: &mut Vec<Entry>,
-    work: &mut Vec<Ask>,
+    work: &mut Vec<Constraint>,
     a: VarId,
-    asked: Kind,
-) -> Result<bool, AllocError>
+    added: Kind,
+) -> Result<Solving, AllocError>
     requires slots { SlotsIn slots.old }
-    requires work { AsksIn (length slots.old) work.old.items }
-    requires ask { AskIn (length slots.old) (Ask.Is a asked) }
+    requires work { ConstraintsIn (length slots.old) work.old.items }
+    requires constraint { ConstraintIn (length slots.old) (Constraint.Is a added) }
     ensures slots { IfOk result (λ _. SlotsIn slots.new) }
-    ensures work { IfOk result (λ _. AsksIn (length slots.new) work.new.items) }
-    ensures solutions { IfOk result (λ yes. Stepped yes slots.old (work.old.items ++ (Ask.Is a asked) ∷ []) slots.new work.new.items) }
-    ensures lighter { IfOk result (λ _. weight slots.new work.new.items < weight slots.old (work.old.items ++ (Ask.Is a asked) ∷ [])) }
+    ensures work { IfOk result (λ _. ConstraintsIn (length slots.new) work.new.items) }
+    ensures solutions { IfOk result (λ solving. Stepped solving slots.old (work.old.items ++ (Constraint.Is a added) ∷ []) slots.new work.new.items) }
+    ensures lighter { IfOk result (λ _. weight slots.new work.new.items < weight slots.old (work.old.items ++ (Constraint.Is a added) ∷ [])) }
     ensures logged { IsLogged slots.old log.old.items slots.new log.new.items }
 {
     let root = find(slots, a);
     let held = kind_at(slots, root);
-    match meet(held, asked) {
-        Met::Clash => Ok(false),
-        Met::Keep(more) => {
-            push_more(work, held, more)?;
-            Ok(true)
+    match merge_kinds(held, added) {
+        Merge::Clash => Ok(Solving::Clash),
+        Merge::Keep(residue) => {
+            push_residue(work, held, residue)?;
+            Ok(Solving::Solved)
         }
-        Met::Put(kind, more) => {
-            push_more(work, held, more)?;
+        Merge::Put(kind, residue) => {
+            push_residue(work, held, residue)?;
             write(slots, log, root, Slot::Root(kind))?;
-            Ok(true)
+            Ok(Solving::Solved)
         }
     }
 }
@@ -83,43 +83,43 @@ fn link(
     alloc: Global,
     slots: &mut [Slot],
     log: &mut Vec<Entry>,
-    work: &mut Vec<Ask>,
+    work: &mut Vec<Constraint>,
     high: VarId,
     low: VarId,
 ) -> Result<(), AllocError>
     requires slots { SlotsIn slots.old }
-    requires work { AsksIn (length slots.old) work.old.items }
+    requires work { ConstraintsIn (length slots.old) work.old.items }
     requires high { high.0 < length slots.old }
     requires root { IsRoot (slice_index_or slots.old high.0 (Slot.Root Kind.Free)) }
     requires low { low.0 < high.0 }
     ensures slots { IfOk result (λ _. SlotsIn slots.new) }
-    ensures work { IfOk result (λ _. AsksIn (length slots.new) work.new.items) }
-    ensures solutions { IfOk result (λ _. KeepsSolutions slots.old (work.old.items ++ (Ask.Equal high low) ∷ []) slots.new work.new.items) }
+    ensures work { IfOk result (λ _. ConstraintsIn (length slots.new) work.new.items) }
+    ensures solutions { IfOk result (λ _. KeepsSolutions slots.old (work.old.items ++ (Constraint.Equal high low) ∷ []) slots.new work.new.items) }
     ensures lighter { IfOk result (λ _. weight slots.new work.new.items < weight slots.old work.old.items + 3) }
     ensures logged { IsLogged slots.old log.old.items slots.new log.new.items }
 {
     let held = copy_of(alloc, kind_at(slots, high))?;
-    work.push(Ask::Is(low, held))?;
+    work.push(Constraint::Is(low, held))?;
     write(slots, log, high, Slot::Link(low))?;
     Ok(())
 }
 
-/// Makes two variables equal.
-fn merge(
+/// Makes one class of the classes of two variables.
+fn unite(
     alloc: Global,
     slots: &mut [Slot],
     log: &mut Vec<Entry>,
-    work: &mut Vec<Ask>,
+    work: &mut Vec<Constraint>,
     a: VarId,
     b: VarId,
 ) -> Result<(), AllocError>
     requires slots { SlotsIn slots.old }
-    requires work { AsksIn (length slots.old) work.old.items }
-    requires ask { AskIn (length slots.old) (Ask.Equal a b) }
+    requires work { ConstraintsIn (length slots.old) work.old.items }
+    requires constraint { ConstraintIn (length slots.old) (Constraint.Equal a b) }
     ensures slots { IfOk result (λ _. SlotsIn slots.new) }
-    ensures work { IfOk result (λ _. AsksIn (length slots.new) work.new.items) }
-    ensures solutions { IfOk result (λ _. KeepsSolutions slots.old (work.old.items ++ (Ask.Equal a b) ∷ []) slots.new work.new.items) }
-    ensures lighter { IfOk result (λ _. weight slots.new work.new.items < weight slots.old (work.old.items ++ (Ask.Equal a b) ∷ [])) }
+    ensures work { IfOk result (λ _. ConstraintsIn (length slots.new) work.new.items) }
+    ensures solutions { IfOk result (λ _. KeepsSolutions slots.old (work.old.items ++ (Constraint.Equal a b) ∷ []) slots.new work.new.items) }
+    ensures lighter { IfOk result (λ _. weight slots.new work.new.items < weight slots.old (work.old.items ++ (Constraint.Equal a b) ∷ [])) }
     ensures logged { IsLogged slots.old log.old.items slots.new log.new.items }
 {
     let of_a = find(slots, a);
@@ -135,33 +135,55 @@ fn merge(
     Ok(())
 }
 
-/// Takes all that is asked into the slots. False is for what no types meet.
+/// Takes one constraint into the slots, and adds what it leaves to be solved.
+fn solve_one(
+    alloc: Global,
+    slots: &mut [Slot],
+    log: &mut Vec<Entry>,
+    work: &mut Vec<Constraint>,
+    constraint: Constraint,
+) -> Result<Solving, AllocError>
+    requires slots { SlotsIn slots.old }
+    requires work { ConstraintsIn (length slots.old) work.old.items }
+    requires constraint { ConstraintIn (length slots.old) constraint }
+    ensures slots { IfOk result (λ _. SlotsIn slots.new) }
+    ensures work { IfOk result (λ _. ConstraintsIn (length slots.new) work.new.items) }
+    ensures solutions { IfOk result (λ solving. Stepped solving slots.old (work.old.items ++ constraint ∷ []) slots.new work.new.items) }
+    ensures lighter { IfOk result (λ _. weight slots.new work.new.items < weight slots.old (work.old.items ++ constraint ∷ [])) }
+    ensures logged { IsLogged slots.old log.old.items slots.new log.new.items }
+{
+    match constraint {
+        Constraint::Equal(a, b) => {
+            unite(alloc, slots, log, work, a, b)?;
+            Ok(Solving::Solved)
+        }
+        Constraint::Is(a, kind) => narrow(slots, log, work, a, kind),
+    }
+}
+
+/// Takes all pending constraints into the slots.
 fn solve_each(
     alloc: Global,
     slots: &mut [Slot],
     log: &mut Vec<Entry>,
-    work: &mut Vec<Ask>,
-) -> Result<bool, AllocError>
+    work: &mut Vec<Constraint>,
+) -> Result<Solving, AllocError>
     requires slots { SlotsIn slots.old }
-    requires work { AsksIn (length slots.old) work.old.items }
+    requires work { ConstraintsIn (length slots.old) work.old.items }
     ensures slots { IfOk result (λ _. SlotsIn slots.new) }
-    ensures solutions { IfOk result (λ yes. Stepped yes slots.old work.old.items slots.new []) }
-    ensures lighter { IfOk result (λ yes. IsTrue yes → weight slots.new [] ≤ weight slots.old work.old.items) }
-    ensures used_up { IfOk result (λ yes. IsTrue yes → work.new.items ≡ []) }
+    ensures solutions { IfOk result (λ solving. Stepped solving slots.old work.old.items slots.new []) }
+    ensures lighter { IfOk result (λ solving. solving ≡ Solving.Solved → weight slots.new [] ≤ weight slots.old work.old.items) }
+    ensures used_up { IfOk result (λ solving. solving ≡ Solving.Solved → work.new.items ≡ []) }
     ensures logged { IsLogged slots.old log.old.items slots.new log.new.items }
 {
-    while let Some(ask) = work.pop() {
-        shorten_asked(slots, log, &ask)?;
-        match ask {
-            Ask::Equal(a, b) => merge(alloc, slots, log, work, a, b)?,
-            Ask::Is(a, kind) => {
-                if !narrow(slots, log, work, a, kind)? {
-                    return Ok(false);
-                }
-            }
+    while let Some(constraint) = work.pop() {
+        shorten_constrained(slots, log, &constraint)?;
+        match solve_one(alloc, slots, log, work, constraint)? {
+            Solving::Clash => return Ok(Solving::Clash),
+            Solving::Solved => {}
         }
     }
-    Ok(true)
+    Ok(Solving::Solved)
 }
 
 /// The same, and shortens the paths of all that was written, since a search begins there.
@@ -169,20 +191,22 @@ pub fn solve(
     alloc: Global,
     slots: &mut [Slot],
     log: &mut Vec<Entry>,
-    work: &mut Vec<Ask>,
-) -> Result<bool, AllocError>
+    work: &mut Vec<Constraint>,
+) -> Result<Solving, AllocError>
     requires slots { SlotsIn slots.old }
-    requires work { AsksIn (length slots.old) work.old.items }
+    requires work { ConstraintsIn (length slots.old) work.old.items }
     ensures slots { IfOk result (λ _. SlotsIn slots.new) }
-    ensures solutions { IfOk result (λ yes. Stepped yes slots.old work.old.items slots.new []) }
-    ensures lighter { IfOk result (λ yes. IsTrue yes → weight slots.new [] ≤ weight slots.old work.old.items) }
-    ensures used_up { IfOk result (λ yes. IsTrue yes → work.new.items ≡ []) }
+    ensures solutions { IfOk result (λ solving. Stepped solving slots.old work.old.items slots.new []) }
+    ensures lighter { IfOk result (λ solving. solving ≡ Solving.Solved → weight slots.new [] ≤ weight slots.old work.old.items) }
+    ensures used_up { IfOk result (λ solving. solving ≡ Solving.Solved → work.new.items ≡ []) }
     ensures logged { IsLogged slots.old log.old.items slots.new log.new.items }
 {
     let before = log.len();
-    if !solve_each(alloc, slots, log, work)? {
-        return Ok(false);
+    match solve_each(alloc, slots, log, work)? {
+        Solving::Clash => Ok(Solving::Clash),
+        Solving::Solved => {
+            shorten_written(slots, log, before)?;
+            Ok(Solving::Solved)
+        }
     }
-    shorten_written(slots, log, before)?;
-    Ok(true)
 }

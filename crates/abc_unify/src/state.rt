@@ -1,24 +1,24 @@
 //! What a graph holds, and how it goes back to an earlier state.
-ghost use Rattle.std.specs.Prelude.{◌≡◌, ℕ, ◌+◌, ◌<◌, ◌^◌, ◌↔◌, [], ◌∷◌, ◌++◌, length, IfOk, OnOk, OnErr, IsTrue, IsFalse};
+ghost use Rattle.std.specs.Prelude.{◌≡◌, ℕ, ◌+◌, ◌<◌, ◌^◌, ◌↔◌, [], ◌∷◌, ◌++◌, length, IfOk, OnOk, OnErr};
 ghost use Rattle.std.specs.List.{All};
 ghost use Rattle.abc_num.specs.declared.types.Ground.{Ground};
 ghost use Rattle.abc_terms.specs.declared.demand.Demand.{Demand};
 ghost use Rattle.abc_terms.specs.Demands.{Holds, MeetsAll};
 ghost use Rattle.abc_terms.specs.Nodes.{IsNode, DemandIn};
-ghost use Rattle.abc_unify.specs.inner.Kinds.{AskHolds, AskIn, AsksHold, AsksIn};
+ghost use Rattle.abc_unify.specs.inner.Kinds.{ConstraintHolds, ConstraintIn, ConstraintsHold, ConstraintsIn};
 ghost use Rattle.abc_unify.specs.inner.Slots.{SlotsIn, Stepped, IsRanked};
 ghost use Rattle.abc_unify.specs.inner.Logs.{IsLogged, EntryIn};
 ghost use Rattle.abc_unify.specs.inner.Naming.{AreNoted};
 ghost use Rattle.abc_unify.specs.Graphs.{with_variable, with_demand, with_demands, with_node, back_at, IsUnsolvable};
 ghost use Rattle.abc_unify.specs.inner.States.{IsState, seen, point_at};
 
+use crate::acyclic::solve_without_cycles;
 use crate::graph::UnifyFault;
-use crate::kind::{Ask, Kind, Slot};
+use crate::kind::{Constraint, Kind, Slot, Solving};
 use crate::log::{Entry, roll_back};
 use crate::marks::Marks;
 use crate::naming::note_slot;
 use crate::node::slot_of;
-use crate::settle::settle;
 use abc_num::OutOfMemory;
 use abc_num::limits::MOST_VARIABLES;
 use abc_terms::{Demand, Term, VarId};
@@ -121,12 +121,17 @@ impl State {
         Ok(a)
     }
 
-    /// Adds a demand, which asks this of the slots. Where no types meet it, nothing is changed.
-    pub fn add(&mut self, alloc: Global, demand: Demand, ask: Ask) -> Result<(), UnifyFault>
+    /// Adds a demand, which is this constraint on the slots. Where no types meet it, nothing is changed.
+    pub fn add(
+        &mut self,
+        alloc: Global,
+        demand: Demand,
+        constraint: Constraint,
+    ) -> Result<(), UnifyFault>
         requires kept { IsState self.old }
-        requires ask { AskIn (length self.old.slots.items) ask }
+        requires constraint { ConstraintIn (length self.old.slots.items) constraint }
         requires made { DemandIn (length self.old.slots.items) demand }
-        requires same { (v : ℕ → Ground) → Holds v demand ↔ AskHolds v ask }
+        requires same { (v : ℕ → Ground) → Holds v demand ↔ ConstraintHolds v constraint }
         ensures kept { IsState self.new }
         ensures ok { OnOk result (seen self.new ≡ with_demand (seen self.old) demand) }
         ensures clash { result ≡ Err UnifyFault.Clash → IsUnsolvable (self.old.demands.items ++ demand ∷ []) }
@@ -143,17 +148,17 @@ impl State {
             alloc,
             self.slots.as_mut_slice(),
             &mut self.log,
-            ask,
+            constraint,
             self.named.as_mut_slice(),
             &mut self.marks,
         ) {
-            Ok(true) => {
+            Ok(Solving::Solved) => {
                 // There is room, so these take no memory and do not fail.
                 let _ = self.demands.push(demand);
                 let _ = self.history.push(point);
                 Ok(())
             }
-            Ok(false) => Err(UnifyFault::Clash),
+            Ok(Solving::Clash) => Err(UnifyFault::Clash),
             Err(_) => Err(UnifyFault::Memory),
         }
     }
@@ -167,7 +172,7 @@ impl State {
         ensures clash { result ≡ Err UnifyFault.Clash → IsUnsolvable (self.old.demands.items ++ demands.items) }
         ensures err { OnErr result (seen self.new ≡ seen self.old) }
     {
-        let Ok(mut work) = asks_of_all(alloc, demands.as_slice()) else {
+        let Ok(mut work) = constraints_of_all(alloc, demands.as_slice()) else {
             return Err(UnifyFault::Memory);
         };
         let before = self.point();
@@ -186,12 +191,12 @@ impl State {
             self.named.as_mut_slice(),
             &mut self.marks,
         ) {
-            Ok(true) => {
+            Ok(Solving::Solved) => {
                 // There is room, so this takes no memory and does not fail.
                 let _ = self.history.push(before);
                 Ok(())
             }
-            Ok(false) => {
+            Ok(Solving::Clash) => {
                 self.demands.truncate(before.demands);
                 Err(UnifyFault::Clash)
             }
@@ -218,64 +223,64 @@ impl State {
     }
 }
 
-/// Takes what is asked into the slots. Where no types meet it, or memory is wanting, nothing is changed.
+/// Takes a constraint into the slots. Where no types meet it, or memory is wanting, nothing is changed.
 fn take_in(
     alloc: Global,
     slots: &mut [Slot],
     log: &mut Vec<Entry>,
-    ask: Ask,
+    constraint: Constraint,
     named: &mut [bool],
     marks: &mut Marks,
-) -> Result<bool, AllocError>
+) -> Result<Solving, AllocError>
     requires slots { SlotsIn slots.old }
     requires noted { AreNoted slots.old log.old.items named.old }
     requires entries { All (EntryIn (length slots.old)) log.old.items }
-    requires ask { AskIn (length slots.old) ask }
+    requires constraint { ConstraintIn (length slots.old) constraint }
     requires ranked { (rank : ℕ → ℕ) × IsRanked slots.old rank }
     requires few { length slots.old < 2 ^ 32 }
-    ensures slots { IfOk result (λ yes. IsTrue yes → SlotsIn slots.new) }
-    ensures solutions { IfOk result (λ yes. Stepped yes slots.old (ask ∷ []) slots.new []) }
-    ensures ranked { IfOk result (λ yes. IsTrue yes → (rank : ℕ → ℕ) × IsRanked slots.new rank) }
-    ensures logged { IfOk result (λ yes. IsTrue yes → IsLogged slots.old log.old.items slots.new log.new.items) }
-    ensures refused { IfOk result (λ yes. IsFalse yes → (slots.new ≡ slots.old) × (log.new.items ≡ log.old.items)) }
+    ensures slots { IfOk result (λ solving. solving ≡ Solving.Solved → SlotsIn slots.new) }
+    ensures solutions { IfOk result (λ solving. Stepped solving slots.old (constraint ∷ []) slots.new []) }
+    ensures ranked { IfOk result (λ solving. solving ≡ Solving.Solved → (rank : ℕ → ℕ) × IsRanked slots.new rank) }
+    ensures logged { IfOk result (λ solving. solving ≡ Solving.Solved → IsLogged slots.old log.old.items slots.new log.new.items) }
+    ensures refused { IfOk result (λ solving. solving ≡ Solving.Clash → (slots.new ≡ slots.old) × (log.new.items ≡ log.old.items)) }
     ensures err { OnErr result ((slots.new ≡ slots.old) × (log.new.items ≡ log.old.items)) }
     ensures noted { AreNoted slots.new log.new.items named.new }
 {
     let mut work = Vec::new(alloc);
-    work.push(ask)?;
+    work.push(constraint)?;
     let taken = take_all(alloc, slots, log, &mut work, named, marks)?;
     Ok(taken)
 }
 
-/// The same of all that is asked.
+/// The same of all pending constraints.
 fn take_all(
     alloc: Global,
     slots: &mut [Slot],
     log: &mut Vec<Entry>,
-    work: &mut Vec<Ask>,
+    work: &mut Vec<Constraint>,
     named: &mut [bool],
     marks: &mut Marks,
-) -> Result<bool, AllocError>
+) -> Result<Solving, AllocError>
     requires slots { SlotsIn slots.old }
     requires noted { AreNoted slots.old log.old.items named.old }
     requires entries { All (EntryIn (length slots.old)) log.old.items }
-    requires work { AsksIn (length slots.old) work.old.items }
+    requires work { ConstraintsIn (length slots.old) work.old.items }
     requires ranked { (rank : ℕ → ℕ) × IsRanked slots.old rank }
     requires few { length slots.old < 2 ^ 32 }
-    ensures slots { IfOk result (λ yes. IsTrue yes → SlotsIn slots.new) }
-    ensures solutions { IfOk result (λ yes. Stepped yes slots.old work.old.items slots.new []) }
-    ensures ranked { IfOk result (λ yes. IsTrue yes → (rank : ℕ → ℕ) × IsRanked slots.new rank) }
-    ensures logged { IfOk result (λ yes. IsTrue yes → IsLogged slots.old log.old.items slots.new log.new.items) }
-    ensures refused { IfOk result (λ yes. IsFalse yes → (slots.new ≡ slots.old) × (log.new.items ≡ log.old.items)) }
+    ensures slots { IfOk result (λ solving. solving ≡ Solving.Solved → SlotsIn slots.new) }
+    ensures solutions { IfOk result (λ solving. Stepped solving slots.old work.old.items slots.new []) }
+    ensures ranked { IfOk result (λ solving. solving ≡ Solving.Solved → (rank : ℕ → ℕ) × IsRanked slots.new rank) }
+    ensures logged { IfOk result (λ solving. solving ≡ Solving.Solved → IsLogged slots.old log.old.items slots.new log.new.items) }
+    ensures refused { IfOk result (λ solving. solving ≡ Solving.Clash → (slots.new ≡ slots.old) × (log.new.items ≡ log.old.items)) }
     ensures err { OnErr result ((slots.new ≡ slots.old) × (log.new.items ≡ log.old.items)) }
     ensures noted { AreNoted slots.new log.new.items named.new }
 {
     let before = log.len();
-    match settle(alloc, slots, log, work, named, marks) {
-        Ok(true) => Ok(true),
-        Ok(false) => {
+    match solve_without_cycles(alloc, slots, log, work, named, marks) {
+        Ok(Solving::Solved) => Ok(Solving::Solved),
+        Ok(Solving::Clash) => {
             roll_back(slots, log, before);
-            Ok(false)
+            Ok(Solving::Clash)
         }
         Err(refused) => {
             roll_back(slots, log, before);
@@ -284,34 +289,34 @@ fn take_all(
     }
 }
 
-/// What the demand asks of the slots.
-fn ask_of(alloc: Global, demand: &Demand) -> Result<Ask, AllocError>
+/// The demand as a constraint.
+fn constraint_of(alloc: Global, demand: &Demand) -> Result<Constraint, AllocError>
     requires { (n : ℕ) × DemandIn n demand.now }
-    ensures means { IfOk result (λ q. (v : ℕ → Ground) → Holds v demand.now ↔ AskHolds v q) }
-    ensures inside { IfOk result (λ q. (n : ℕ) → DemandIn n demand.now → AskIn n q) }
+    ensures means { IfOk result (λ q. (v : ℕ → Ground) → Holds v demand.now ↔ ConstraintHolds v q) }
+    ensures inside { IfOk result (λ q. (n : ℕ) → DemandIn n demand.now → ConstraintIn n q) }
 {
     match demand {
         Demand::Is(a, t) => match slot_of(alloc, t)? {
-            Slot::Root(kind) => Ok(Ask::Is(*a, kind)),
-            Slot::Link(b) => Ok(Ask::Equal(*a, b)),
+            Slot::Root(kind) => Ok(Constraint::Is(*a, kind)),
+            Slot::Link(b) => Ok(Constraint::Equal(*a, b)),
         },
-        Demand::Equal(a, b) => Ok(Ask::Equal(*a, *b)),
-        Demand::Train(a, e) => Ok(Ask::Is(*a, Kind::TrainOf(*e))),
-        Demand::Collection(a, e) => Ok(Ask::Is(*a, Kind::CollectionOf(*e))),
-        Demand::NumberOrText(a) => Ok(Ask::Is(*a, Kind::NumberOrText)),
+        Demand::Equal(a, b) => Ok(Constraint::Equal(*a, *b)),
+        Demand::Train(a, e) => Ok(Constraint::Is(*a, Kind::TrainOf(*e))),
+        Demand::Collection(a, e) => Ok(Constraint::Is(*a, Kind::CollectionOf(*e))),
+        Demand::NumberOrText(a) => Ok(Constraint::Is(*a, Kind::NumberOrText)),
     }
 }
 
-/// What the demands ask of the slots.
-fn asks_of_all(alloc: Global, demands: &[Demand]) -> Result<Vec<Ask>, AllocError>
+/// The demands as constraints.
+fn constraints_of_all(alloc: Global, demands: &[Demand]) -> Result<Vec<Constraint>, AllocError>
     requires { (n : ℕ) × All (DemandIn n) demands.now }
-    ensures means { IfOk result (λ asks. (v : ℕ → Ground) → MeetsAll v demands.now ↔ AsksHold v asks.items) }
-    ensures inside { IfOk result (λ asks. (n : ℕ) → All (DemandIn n) demands.now → AsksIn n asks.items) }
+    ensures means { IfOk result (λ constraints. (v : ℕ → Ground) → MeetsAll v demands.now ↔ ConstraintsHold v constraints.items) }
+    ensures inside { IfOk result (λ constraints. (n : ℕ) → All (DemandIn n) demands.now → ConstraintsIn n constraints.items) }
 {
-    let mut asks = Vec::new(alloc);
+    let mut constraints = Vec::new(alloc);
     for i in 0..demands.len() {
-        let ask = ask_of(alloc, &demands[i])?;
-        asks.push(ask)?;
+        let constraint = constraint_of(alloc, &demands[i])?;
+        constraints.push(constraint)?;
     }
-    Ok(asks)
+    Ok(constraints)
 }

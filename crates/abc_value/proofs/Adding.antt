@@ -40,7 +40,7 @@ pub add_adds : (e : Tree) (xs : List Tree) → Adds e xs (add e xs)
 add_adds e [] = front e []
 add_adds e (x ∷ xs) = by_answer e x xs (order x e) (add_adds e xs)
 
-not_less_turned : (r s : Ordering) → s ≡ ordering_reverse r → r ≢ Less → s ≢ Greater
+pub not_less_turned : (r s : Ordering) → s ≡ ordering_reverse r → r ≢ Less → s ≢ Greater
 not_less_turned Less s e h k = h refl
 not_less_turned Equal s e h k = let p : Equal ≡ Greater = sym e ∙ k in cc
 not_less_turned Greater s e h k = let p : Less ≡ Greater = sym e ∙ k in cc

@@ -1,6 +1,8 @@
 -- The keys of a table, as a list in order, and the entries as pairs.
-use Rattle.std.proofs.Common.{◌≡◌, ℕ, zero, suc, ◌+◌, ◌<◌, ◌≤◌, max, List, [], ◌∷◌, length, map, take, get_or, refl, sym, ap, ◌∙◌, subst, arith, add-one}
+use Rattle.std.proofs.Common.{◌≡◌, ℕ, zero, suc, ◌+◌, ◌<◌, ◌≤◌, true, false, max, List, [], ◌∷◌, length, map, take, get_or, refl, sym, ap, ◌∙◌, subst, arith, add-one}
 use Rattle.std.specs.List.{remove, insert, slice_set}
+use Rattle.std.specs.List.Sorted.{IsPartitionedBy, IsPartitionPoint}
+use Rattle.std.specs.Ordering.{is_lt}
 use Rattle.std.proofs.lemmas.List.{length-map, get_or-map}
 use Rattle.abc_value.specs.Tree.{Tree, table, trees, pairs}
 use Rattle.abc_value.specs.Regular.{IsRegular, AllRegular, AllRegularPairs, IsOrdered, IsRising}
@@ -9,7 +11,9 @@ use Rattle.abc_value.specs.View.{as_pair, entry_keys}
 use Rattle.abc_value.specs.Parts.{pairs_of, keys_of}
 use Rattle.abc_value.proofs.Rows.{listed_pairs_pairs}
 use Rattle.abc_value.specs.Sizes.{height_of, pairs_height}
-use Rattle.abc_value.proofs.Placing.{less_not_greater, Between, between_all}
+use Rattle.abc_value.specs.Changes.{IsPlaceOf}
+use Rattle.abc_value.specs.Order.{order}
+use Rattle.abc_value.proofs.Placing.{less_not_greater, parted, place_found}
 
 -- the keys of pairs
 abbrev pub firsts : List (Tree × Tree) → List Tree
@@ -69,10 +73,25 @@ set_back [] n e f is = refl
 set_back (g ∷ gs) zero e f is = ap (λ h. h ∷ gs) is
 set_back (g ∷ gs) (suc n) e f is = ap (λ hs. g ∷ hs) (set_back gs n e f is)
 
-pub key_between : (k : Tree) (es : List Entry) → Between k (entry_keys es) 0 (length es)
-key_between k es =
-    let P : ℕ → Type 0 = λ n. Between k (entry_keys es) 0 n in
-    subst P (length-map es (λ (e : Entry). e.key)) (between_all k (entry_keys es))
+entry_key_at : (es : List Entry) (n : ℕ) (d : Entry) → n < length es → get_or (entry_keys es) n d.key ≡ (get_or es n d).key
+entry_key_at es n d inside = get_or-map (λ (f : Entry). f.key) es n d d.key inside
+
+-- entries whose keys are less than k stand in front of the others
+pub keys_parted : (k : Tree) (es : List Entry) → IsRising (pairs (map as_pair es)) → AllRegularPairs (pairs (map as_pair es)) → IsRegular k → IsPartitionedBy (λ (e : Entry). is_lt (order e.key k)) es
+keys_parted k es o r i = λ m n d p q h.
+    let s = search_keys es o r in
+    let count = length-map es (λ (e : Entry). e.key) in
+    ap (λ t. is_lt (order t k)) (sym (entry_key_at es m d (omega (arith, p, q))))
+    ∙ parted k (entry_keys es) s.1 s.0 i m n d.key p (omega (arith, q, count)) (ap (λ t. is_lt (order t k)) (entry_key_at es n d q) ∙ h)
+
+-- the place that parts the entries is that of k among the keys
+pub key_place : (k : Tree) (es : List Entry) (n : ℕ) → n ≤ length es → IsPartitionPoint (λ (e : Entry). is_lt (order e.key k) ≡ true) (λ (e : Entry). is_lt (order e.key k) ≡ false) es n → IsPlaceOf k (entry_keys es) n
+key_place k es n within s =
+    let d : Entry = record { key = k; associate = k } in
+    let count = length-map es (λ (e : Entry). e.key) in
+    place_found k (entry_keys es) n (omega (arith, within, count))
+    (λ m h. ap (λ t. is_lt (order t k)) (entry_key_at es m d (omega (arith, h, within))) ∙ s.0 m d (omega arith) h)
+    (λ m h l. ap (λ t. is_lt (order t k)) (entry_key_at es m d (omega (arith, l, count))) ∙ s.1 m d h (omega (arith, l, count)))
 
 pub key_read : (es : List Entry) (n : ℕ) (e : Entry) → n < length es → e ≡ get_or es n e → e.key ≡ get_or (entry_keys es) n e.key
 key_read es n e inside is = ap (λ (f : Entry). f.key) is ∙ sym (get_or-map (λ (f : Entry). f.key) es n e e.key inside)

@@ -7,6 +7,7 @@ pub mod FiniteDecimals
 pub mod Found
 pub mod Grounds
 pub mod Itemised
+pub mod Heights
 pub mod Joins
 pub mod Keys
 pub mod ByKind
@@ -14,6 +15,8 @@ pub mod Characters
 pub mod LongDivision
 pub mod Lower
 pub mod Making
+pub mod Merging
+pub mod MergingPairs
 pub mod Outers
 pub mod Pairing
 pub mod OrderLaws
@@ -27,5 +30,6 @@ pub mod Rows
 pub mod ShapeLooks
 pub mod ShapeSteps
 pub mod Shaping
+pub mod Short
 pub mod Tables
 pub mod TypesOfValues

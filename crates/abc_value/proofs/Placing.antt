@@ -1,9 +1,9 @@
 -- The place of an element in a list in order.
-use Rattle.std.proofs.Common.{◌≡◌, ◌≢◌, ℕ, zero, suc, ◌+◌, ◌<◌, ◌≤◌, List, [], ◌∷◌, ◌++◌, length, take, drop, get_or, refl, sym, ap, ◌∙◌, arith, if◌then◌else◌}
+use Rattle.std.proofs.Common.{◌≡◌, ◌≢◌, ℕ, zero, suc, ◌<◌, ◌≤◌, true, false, List, [], ◌∷◌, ◌++◌, length, take, drop, get_or, refl, sym, ap, ◌∙◌, arith, if◌then◌else◌}
 use Rattle.std.specs.declared.cmp.Ordering.{Ordering}
 use Rattle.std.specs.declared.cmp.Ordering.TheVariants.{Less, Equal, Greater}
-use Rattle.std.specs.Ordering.{match_ordering, is_eq}
-use Rattle.std.proofs.lemmas.List.{get_or_read}
+use Rattle.std.specs.List.Sorted.{IsPartitionedBy}
+use Rattle.std.specs.Ordering.{match_ordering, is_eq, is_lt}
 use Rattle.abc_value.specs.Tree.{Tree, trees}
 use Rattle.abc_value.specs.Order.{order}
 use Rattle.abc_value.specs.Regular.{IsRegular, AllRegular, IsOrdered}
@@ -18,9 +18,6 @@ less_by x y e Greater i j l p h k = absurd (h refl)
 
 pub less_before : (x y e : Tree) → IsRegular x → IsRegular y → IsRegular e → order x y ≢ Greater → order y e ≡ Less → order x e ≡ Less
 less_before x y e i j l h k = less_by x y e (order x y) i j l refl h k
-
-pub not_less_after : (x y e : Tree) → IsRegular x → IsRegular y → IsRegular e → order x y ≢ Greater → order x e ≢ Less → order y e ≢ Less
-not_less_after x y e i j l h k m = k (less_before x y e i j l h m)
 
 pub not_greater : (r : Ordering) → r ≡ Equal → r ≢ Greater
 not_greater r h k = cc
@@ -78,45 +75,26 @@ rising (x ∷ xs) (suc i) zero d r h p q = absurd (omega arith)
 rising (x ∷ []) (suc i) (suc j) d r h p q = absurd (omega arith)
 rising (x ∷ y ∷ ys) (suc i) (suc j) d r h p q = rising (y ∷ ys) i j d r.1 h.1 (omega arith) (omega arith)
 
--- a search by halves knows what stands below low and from high on
-pub record Between (e : Tree) (xs : List Tree) (low high : ℕ) : Type 0 where
-  pub met : low ≤ high
-  pub within : high ≤ length xs
-  pub before : (k : ℕ) → k < low → order (get_or xs k e) e ≡ Less
-  pub behind : (k : ℕ) → high ≤ k → k < length xs → order (get_or xs k e) e ≢ Less
+is_less : (r : Ordering) → is_lt r ≡ true → r ≡ Less
+is_less Less h = refl
+is_less Equal h = cc
+is_less Greater h = cc
 
-pub between_all : (e : Tree) (xs : List Tree) → Between e xs 0 (length xs)
-between_all e xs = record { met = omega arith; within = omega arith; before = λ k h. absurd (omega arith); behind = λ k h l. absurd (omega arith) }
+-- what is less than e stands in front of what isn't
+pub parted : (e : Tree) (xs : List Tree) → AllRegular (trees xs) → IsOrdered (trees xs) → IsRegular e → IsPartitionedBy (λ x. is_lt (order x e)) xs
+parted e xs r o i = λ k j d p q h.
+    ap is_lt (less_before (get_or xs k d) (get_or xs j d) e (regular_at xs k d r (omega (arith, p, q))) (regular_at xs j d r q) i (rising xs k j d r o p q) (is_less _ h))
 
-pub place_found : (e : Tree) (xs : List Tree) (low high : ℕ) → Between e xs low high → high ≤ low → IsPlaceOf e xs low
-place_found e xs low high b h = record { within = omega (arith, b.met, b.within); before = b.before; behind = λ k l m. b.behind k (omega (arith, b.met)) m }
+-- the place that parts the elements is that of e
+pub place_found : (e : Tree) (xs : List Tree) (n : ℕ) → n ≤ length xs
+    → ((k : ℕ) → k < n → is_lt (order (get_or xs k e) e) ≡ true) → ((k : ℕ) → n ≤ k → k < length xs → is_lt (order (get_or xs k e) e) ≡ false) → IsPlaceOf e xs n
+place_found e xs n within passed others = record {
+  within = within;
+  before = λ k h. is_less _ (passed k h);
+  behind = λ k h l m. let q : true ≡ false = sym (ap is_lt m) ∙ others k h l in cc;
+}
 
-module _ (e : Tree) (xs : List Tree) (low high m : ℕ) (x : Tree) (r : AllRegular (trees xs)) (o : IsOrdered (trees xs)) (i : IsRegular e) (b : Between e xs low high) (p : low ≤ m) (q : m < high) (is : x ≡ get_or xs m x) where
-  inside : m < length xs
-  inside = omega (arith, b.within)
-
-  at : x ≡ get_or xs m e
-  at = get_or_read xs m x inside is e
-
-  pub move_low : order x e ≡ Less → Between e xs (m + 1) high
-  move_low less = record {
-    met = omega arith;
-    within = b.within;
-    behind = b.behind;
-    before = λ k h. less_before (get_or xs k e) (get_or xs m e) e (regular_at xs k e r (omega (arith, inside))) (regular_at xs m e r inside) i
-        (rising xs k m e r o (omega arith) inside) (ap (λ y. order y e) (sym at) ∙ less);
-  }
-
-  pub move_high : order x e ≢ Less → Between e xs low m
-  move_high not_less = record {
-    met = p;
-    within = omega (arith, inside);
-    before = b.before;
-    behind = λ k h l. not_less_after (get_or xs m e) (get_or xs k e) e (regular_at xs m e r inside) (regular_at xs k e r l) i
-        (rising xs m k e r o h l) (λ f. not_less (ap (λ y. order y e) at ∙ f));
-  }
-
-add_here : (x e : Tree) (xs : List Tree) (r : Ordering) → r ≢ Less → e ∷ x ∷ xs ≡ match_ordering r (x ∷ add e xs) (e ∷ x ∷ xs) (e ∷ x ∷ xs)
+pub add_here : (x e : Tree) (xs : List Tree) (r : Ordering) → r ≢ Less → e ∷ x ∷ xs ≡ match_ordering r (x ∷ add e xs) (e ∷ x ∷ xs) (e ∷ x ∷ xs)
 add_here x e xs Less h = absurd (h refl)
 add_here x e xs Equal h = refl
 add_here x e xs Greater h = refl

@@ -190,6 +190,7 @@ one_pair_invariant k a ps h w is i j e f small =
 pub record IsReplacing (k a : Tree) (t : Tree) (es : List Entry) (n : ℕ) (old : Entry) : Type 0 where
   pub inside : n < length es
   pub same : map as_pair es ≡ pairs_of t
+  pub same_key : old.key ≡ k
   pub is : map as_pair (slice_set es n (record { key = k; associate = a })) ≡ with_pair k a (map as_pair es)
   pub sizes : Replaces k a old.associate (map as_pair es) (with_pair k a (map as_pair es))
   pub fault : (m h w : ℕ) → m ≡ length es → h ≡ pairs_height (pairs (with_pair k a (map as_pair es))) → w ≡ pairs_weight (pairs (with_pair k a (map as_pair es))) + 5 → sizes_fault m h w ≡ size_fault (table (pairs (with_pair k a (pairs_of t))))
@@ -207,6 +208,7 @@ replacing k a t es n old opened place there read =
     record {
       inside = inside;
       same = same;
+      same_key = old_key k a es n old place' inside there'.1 read;
       is = map_set es n _ ∙ replaced_is k a es n old place' inside there'.1 read;
       sizes = replaced k a es n old place' inside there'.1 read;
       fault = λ m h w e f g. replace_fault k a es n old place' inside there'.1 read m h w e f g ∙ ap (λ ps. size_fault (table (pairs (with_pair k a ps)))) same;

@@ -21,6 +21,6 @@ most-pairs (e ∷ es) = omega (arith, most-pairs es)
 pub deep-height : (n : Node) → max (deep-Node n) 0 ≤ height_of (node_tree n)
 deep-height (Number n) = omega arith
 deep-height (Text v) = omega arith
-deep-height (Compound v) = omega (arith, most-height v.items)
-deep-height (Listed v) = omega (arith, most-height v.items)
-deep-height (Table v) = omega (arith, most-pairs v.items)
+deep-height (Compound v) = omega (arith, most-height v)
+deep-height (Listed v) = omega (arith, most-height v)
+deep-height (Table v) = omega (arith, most-pairs v)

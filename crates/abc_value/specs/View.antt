@@ -13,7 +13,7 @@ entry_keys es = map (λ e. e.key) es
 
 abbrev pub node_tree : Node → Tree
 node_tree (Number n) = number n
-node_tree (Text v) = text v.items
-node_tree (Compound v) = compound (trees v.items)
-node_tree (Listed v) = list (trees v.items)
-node_tree (Table v) = table (pairs (map as_pair v.items))
+node_tree (Text v) = text v.value.items
+node_tree (Compound v) = compound (trees v)
+node_tree (Listed v) = list (trees v)
+node_tree (Table v) = table (pairs (map as_pair v))

@@ -1,2 +1,4 @@
 -- Steps of the code, in words that no public clause uses.
+pub mod Heights
+pub mod Merging
 pub mod Printing

@@ -7,8 +7,8 @@ ghost use Rattle.abc_value.specs.View.{node_tree, as_pair};
 
 use crate::Value;
 use crate::value::{Entry, Node};
+use abc_chunks::Chunks;
 use std::cmp::Ordering;
-use std::collections::VecDeque;
 
 impl Value {
     /// The order of the two values: numbers by size, texts by codes, compounds, lists and tables part by part; between
@@ -44,8 +44,8 @@ fn rank_of(node: &Node) -> u8
 
 /// Compares part by part; a proper front is less.
 #[cycle(compare)]
-fn cmp_all(a: &VecDeque<Value>, b: &VecDeque<Value>) -> Ordering
-    ensures { result ≡ trees_order (trees a.now.items) (trees b.now.items) }
+fn cmp_all(a: &Chunks<Value>, b: &Chunks<Value>) -> Ordering
+    ensures { result ≡ trees_order (trees a.now) (trees b.now) }
 {
     for i in 0..a.len().min(b.len()) {
         match a[i].cmp(&b[i]) {
@@ -58,8 +58,8 @@ fn cmp_all(a: &VecDeque<Value>, b: &VecDeque<Value>) -> Ordering
 
 /// Compares pair by pair, the key first; a proper front is less.
 #[cycle(compare)]
-fn cmp_entries(a: &VecDeque<Entry>, b: &VecDeque<Entry>) -> Ordering
-    ensures { result ≡ pairs_order (pairs (map as_pair a.now.items)) (pairs (map as_pair b.now.items)) }
+fn cmp_entries(a: &Chunks<Entry>, b: &Chunks<Entry>) -> Ordering
+    ensures { result ≡ pairs_order (pairs (map as_pair a.now)) (pairs (map as_pair b.now)) }
 {
     for i in 0..a.len().min(b.len()) {
         match a[i].key.cmp(&b[i].key) {

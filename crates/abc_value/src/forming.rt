@@ -7,9 +7,9 @@ ghost use Rattle.abc_value.specs.View.{as_pair};
 
 use crate::value::{Entry, Node};
 use crate::{Shape, Value};
+use abc_chunks::Chunks;
 use abc_num::OutOfMemory;
 use std::alloc::Global;
-use std::collections::VecDeque;
 
 impl Shape {
     /// The shape of the types that a value has. None where it has none, as a list of a number and a text.
@@ -44,8 +44,8 @@ impl Shape {
 
 /// The shapes of these values, where each has one.
 #[cycle(form)]
-fn shapes_of(alloc: Global, parts: &VecDeque<Value>) -> Result<Option<Vec<Shape>>, OutOfMemory>
-    ensures { IfOk result (λ o. option_map (λ v. forms v.items) o ≡ forms_of (trees parts.now.items)) }
+fn shapes_of(alloc: Global, parts: &Chunks<Value>) -> Result<Option<Vec<Shape>>, OutOfMemory>
+    ensures { IfOk result (λ o. option_map (λ v. forms v.items) o ≡ forms_of (trees parts.now)) }
 {
     let mut shapes = Vec::new(alloc);
     for i in 0..parts.len() {
@@ -70,8 +70,8 @@ fn shape_with(alloc: Global, all: &Shape, v: &Value) -> Result<Option<Shape>, Ou
 
 /// The shape of the types that all these values have.
 #[cycle(form)]
-fn common_shape(alloc: Global, parts: &VecDeque<Value>) -> Result<Option<Shape>, OutOfMemory>
-    ensures { IfOk result (λ o. o ≡ common (Some anything) (trees parts.now.items)) }
+fn common_shape(alloc: Global, parts: &Chunks<Value>) -> Result<Option<Shape>, OutOfMemory>
+    ensures { IfOk result (λ o. o ≡ common (Some anything) (trees parts.now)) }
 {
     let mut all = Shape::anything();
     for i in 0..parts.len() {
@@ -85,8 +85,8 @@ fn common_shape(alloc: Global, parts: &VecDeque<Value>) -> Result<Option<Shape>,
 
 /// The shape of the types that all keys have.
 #[cycle(form)]
-fn key_shape(alloc: Global, entries: &VecDeque<Entry>) -> Result<Option<Shape>, OutOfMemory>
-    ensures { IfOk result (λ o. o ≡ common_key (Some anything) (pairs (map as_pair entries.now.items))) }
+fn key_shape(alloc: Global, entries: &Chunks<Entry>) -> Result<Option<Shape>, OutOfMemory>
+    ensures { IfOk result (λ o. o ≡ common_key (Some anything) (pairs (map as_pair entries.now))) }
 {
     let mut all = Shape::anything();
     for i in 0..entries.len() {
@@ -100,8 +100,8 @@ fn key_shape(alloc: Global, entries: &VecDeque<Entry>) -> Result<Option<Shape>, 
 
 /// The shape of the types that all associates have.
 #[cycle(form)]
-fn associate_shape(alloc: Global, entries: &VecDeque<Entry>) -> Result<Option<Shape>, OutOfMemory>
-    ensures { IfOk result (λ o. o ≡ common_associate (Some anything) (pairs (map as_pair entries.now.items))) }
+fn associate_shape(alloc: Global, entries: &Chunks<Entry>) -> Result<Option<Shape>, OutOfMemory>
+    ensures { IfOk result (λ o. o ≡ common_associate (Some anything) (pairs (map as_pair entries.now))) }
 {
     let mut all = Shape::anything();
     for i in 0..entries.len() {

@@ -8,10 +8,10 @@ ghost use Rattle.abc_value.specs.Items.{IsAnswer, IsTrain, HaveRange, item_of, r
 use crate::list::ordered_list;
 use crate::value::Node;
 use crate::{Value, ValueFault};
+use abc_chunks::Chunks;
 use abc_num::Num;
 use abc_num::limits::MOST_ELEMENTS;
 use std::alloc::Global;
-use std::collections::VecDeque;
 
 impl Value {
     /// The i-th element of a text, list or table, in order and counted from 1. NotWhole where `i` isn't whole; OutOfRange
@@ -54,7 +54,9 @@ impl Value {
                 (Some(first), Some(last)) => range_of_numbers(alloc, first, last),
                 _ => Err(ValueFault::NotWhole),
             },
-            (Node::Text(p), Node::Text(q)) => range_of_characters(alloc, p, q),
+            (Node::Text(p), Node::Text(q)) => {
+                range_of_characters(alloc, p.as_slice(), q.as_slice())
+            }
             _ => unreachable!(),
         }
     }
@@ -74,7 +76,7 @@ fn range_of_numbers(alloc: Global, p: i128, q: i128) -> Result<Value, ValueFault
     for k in 0..count as usize {
         items.push(whole_value(p, k))?;
     }
-    ordered_list(VecDeque::from_vec(items))
+    ordered_list(Chunks::from_vec(items)?)
 }
 
 /// How many whole numbers there are from `p` to `q`.
@@ -112,5 +114,5 @@ fn range_of_characters(alloc: Global, b: &[u8], c: &[u8]) -> Result<Value, Value
     for k in 0..(c[0] + 1).saturating_sub(first) {
         items.push(Value::text(alloc, &[first + k])?)?;
     }
-    ordered_list(VecDeque::from_vec(items))
+    ordered_list(Chunks::from_vec(items)?)
 }

@@ -14,6 +14,7 @@ mod parts;
 mod printing;
 mod shape;
 mod sizes;
+mod sorting;
 mod table;
 mod value;
 

@@ -9,10 +9,11 @@ ghost use Rattle.abc_value.specs.Parts.{kind_of, number_of, codes_of, parts_of, 
 use crate::sizes::sizes_of;
 use crate::value::{Entry, Node};
 use crate::{Kind, Value, ValueFault};
+use abc_chunks::Chunks;
 use abc_num::Num;
 use abc_num::limits::MOST_ELEMENTS;
 use std::alloc::Global;
-use std::collections::VecDeque;
+use std::rc::Rc;
 
 impl Value {
     /// The text of these characters. TooLong where there are too many.
@@ -25,7 +26,7 @@ impl Value {
             return Err(ValueFault::TooLong);
         }
         Ok(Value {
-            node: Node::Text(Vec::from_slice(alloc, b)?),
+            node: Node::Text(Rc::new(alloc, Vec::from_slice(alloc, b)?)?),
             height: 0,
             weight: b.len() as u64 + 5,
         })
@@ -38,7 +39,7 @@ impl Value {
         ensures value { IfOk result (λ v. v ≡ compound (trees fields.items)) }
         ensures sizes { IsMakingOf (compound (trees fields.items)) result }
     {
-        let parts = VecDeque::from_vec(fields);
+        let parts = Chunks::from_vec(fields)?;
         let (height, weight) = sizes_of(&parts)?;
         Ok(Value {
             node: Node::Compound(parts),
@@ -118,14 +119,14 @@ impl Value {
     }
 }
 
-fn nth(parts: &VecDeque<Value>, i: usize) -> Option<&Value>
-    ensures { option_map (λ v. v.now) result ≡ slice_get parts.now.items i }
+fn nth(parts: &Chunks<Value>, i: usize) -> Option<&Value>
+    ensures { option_map (λ v. v.now) result ≡ slice_get parts.now i }
 {
     parts.get(i)
 }
 
-fn nth_key(entries: &VecDeque<Entry>, i: usize) -> Option<&Value>
-    ensures { option_map (λ v. v.now) result ≡ option_map (λ e. e.key) (slice_get entries.now.items i) }
+fn nth_key(entries: &Chunks<Entry>, i: usize) -> Option<&Value>
+    ensures { option_map (λ v. v.now) result ≡ option_map (λ e. e.key) (slice_get entries.now i) }
 {
     match entries.get(i) {
         Some(entry) => Some(&entry.key),
@@ -133,8 +134,8 @@ fn nth_key(entries: &VecDeque<Entry>, i: usize) -> Option<&Value>
     }
 }
 
-fn nth_associate(entries: &VecDeque<Entry>, i: usize) -> Option<&Value>
-    ensures { option_map (λ v. v.now) result ≡ option_map (λ e. e.associate) (slice_get entries.now.items i) }
+fn nth_associate(entries: &Chunks<Entry>, i: usize) -> Option<&Value>
+    ensures { option_map (λ v. v.now) result ≡ option_map (λ e. e.associate) (slice_get entries.now i) }
 {
     match entries.get(i) {
         Some(entry) => Some(&entry.associate),

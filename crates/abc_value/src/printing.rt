@@ -10,9 +10,9 @@ ghost use Rattle.abc_value.specs.View.{as_pair};
 use crate::numeral::number_bytes;
 use crate::value::{Entry, Node};
 use crate::{PrintFault, Value};
+use abc_chunks::Chunks;
 use abc_num::Num;
 use std::alloc::Global;
-use std::collections::VecDeque;
 
 /// The value as it is written: a text as it is, a compound as its fields with spaces between them, and any other value as its
 /// display. TooLong where this is longer than `most` bytes.
@@ -115,7 +115,7 @@ fn add_display(bytes: &mut Vec<u8>, v: &Value, most: usize) -> Result<(), PrintF
 {
     match &v.node {
         Node::Number(n) => add_number(bytes, n, most)?,
-        Node::Text(text) => add_quoted(bytes, text, most)?,
+        Node::Text(text) => add_quoted(bytes, text.as_slice(), most)?,
         Node::Compound(parts) => {
             append(bytes, b"(", most)?;
             add_displays(bytes, parts, b", ", most)?;
@@ -139,11 +139,11 @@ fn add_display(bytes: &mut Vec<u8>, v: &Value, most: usize) -> Result<(), PrintF
 #[cycle(print)]
 fn add_displays(
     bytes: &mut Vec<u8>,
-    parts: &VecDeque<Value>,
+    parts: &Chunks<Value>,
     separator: &[u8],
     most: usize,
 ) -> Result<(), PrintFault>
-    ensures { IsAdded bytes.old.items (joined separator.now (displays (trees parts.now.items))) bytes.new.items most result }
+    ensures { IsAdded bytes.old.items (joined separator.now (displays (trees parts.now))) bytes.new.items most result }
 {
     for i in 0..parts.len() {
         separate(bytes, separator, i, most)?;
@@ -154,8 +154,8 @@ fn add_displays(
 
 /// Adds the displays of the pairs.
 #[cycle(print)]
-fn add_pairs(bytes: &mut Vec<u8>, entries: &VecDeque<Entry>, most: usize) -> Result<(), PrintFault>
-    ensures { IsAdded bytes.old.items (joined (codes "; ") (pair_displays (pairs (map as_pair entries.now.items)))) bytes.new.items most result }
+fn add_pairs(bytes: &mut Vec<u8>, entries: &Chunks<Entry>, most: usize) -> Result<(), PrintFault>
+    ensures { IsAdded bytes.old.items (joined (codes "; ") (pair_displays (pairs (map as_pair entries.now)))) bytes.new.items most result }
 {
     for i in 0..entries.len() {
         separate(bytes, b"; ", i, most)?;
@@ -191,15 +191,15 @@ fn add_plain(bytes: &mut Vec<u8>, v: &Value, most: usize) -> Result<(), PrintFau
     ensures { IsAdded bytes.old.items (plain v.now) bytes.new.items most result }
 {
     match &v.node {
-        Node::Text(text) => append(bytes, text, most)?,
+        Node::Text(text) => append(bytes, text.as_slice(), most)?,
         _ => add_display(bytes, v, most)?,
     }
     Ok(())
 }
 
 /// Adds the fields of a compound as they are written.
-fn add_plains(bytes: &mut Vec<u8>, fields: &VecDeque<Value>, most: usize) -> Result<(), PrintFault>
-    ensures { IsAdded bytes.old.items (joined (codes " ") (plains (trees fields.now.items))) bytes.new.items most result }
+fn add_plains(bytes: &mut Vec<u8>, fields: &Chunks<Value>, most: usize) -> Result<(), PrintFault>
+    ensures { IsAdded bytes.old.items (joined (codes " ") (plains (trees fields.now))) bytes.new.items most result }
 {
     for i in 0..fields.len() {
         separate(bytes, b" ", i, most)?;

@@ -1,14 +1,16 @@
 //! Tests and sums of the sizes of values that are to be made.
-ghost use Rattle.std.specs.Prelude.{◌≡◌, ℕ, ◌≤◌, ◌*◌, ◌+◌, max, length, MatchResult, IfOk, map, Some, None};
+ghost use Rattle.std.specs.Prelude.{◌≡◌, ℕ, ◌<◌, ◌≤◌, ◌*◌, ◌+◌, max, length, MatchResult, IfOk, map, Some, None};
+ghost use Rattle.std.specs.List.{between};
 ghost use Rattle.abc_value.specs.Tree.{compound, table, trees, pairs};
 ghost use Rattle.abc_value.specs.View.{as_pair};
+ghost use Rattle.abc_value.specs.inner.Heights.{others_height};
 ghost use Rattle.abc_value.specs.Sizes.{height_of, weight_of, sizes_fault, trees_height, pairs_height, trees_weight, pairs_weight, IsMakingOf};
 ghost use Rattle.abc_value.specs.Regular.{IsRegular, AllRegular, AllRegularPairs};
 
 use crate::value::Entry;
 use crate::{Value, ValueFault};
+use abc_chunks::Chunks;
 use abc_num::limits::{MOST_ELEMENTS, MOST_VALUE_HEIGHT, MOST_WEIGHT};
-use std::collections::VecDeque;
 
 /// Tests sizes against their bounds.
 #[tactic(auto, unfolding(crate::specs::Sizes::sizes_fault))]
@@ -30,11 +32,11 @@ pub(crate) fn check_sizes(length: usize, height: u32, weight: u64) -> Result<(),
 
 /// The height and the weight of a compound or a list of these parts. TooLong, TooDeep and TooLarge where a size of it is past
 /// its bound.
-pub(crate) fn sizes_of(parts: &VecDeque<Value>) -> Result<(u32, u64), ValueFault>
-    ensures height { IfOk result (λ p. p.0 ≡ trees_height (trees parts.now.items)) }
-    ensures weight { IfOk result (λ p. p.1 ≡ trees_weight (trees parts.now.items) + 5) }
-    ensures regular { IfOk result (λ _. AllRegular (trees parts.now.items)) }
-    ensures sizes { IsMakingOf (compound (trees parts.now.items)) result }
+pub(crate) fn sizes_of(parts: &Chunks<Value>) -> Result<(u32, u64), ValueFault>
+    ensures height { IfOk result (λ p. p.0 ≡ trees_height (trees parts.now)) }
+    ensures weight { IfOk result (λ p. p.1 ≡ trees_weight (trees parts.now) + 5) }
+    ensures regular { IfOk result (λ _. AllRegular (trees parts.now)) }
+    ensures sizes { IsMakingOf (compound (trees parts.now)) result }
 {
     if parts.len() > MOST_ELEMENTS {
         return Err(ValueFault::TooLong);
@@ -47,10 +49,10 @@ pub(crate) fn sizes_of(parts: &VecDeque<Value>) -> Result<(u32, u64), ValueFault
 
 /// The height and the weight of a table of these entries, of which there is one at least. TooLong, TooDeep and TooLarge where
 /// a size of it is past its bound.
-pub(crate) fn sizes_of_entries(entries: &VecDeque<Entry>) -> Result<(u32, u64), ValueFault>
-    ensures height { IfOk result (λ p. p.0 ≡ pairs_height (pairs (map as_pair entries.now.items))) }
-    ensures weight { IfOk result (λ p. p.1 ≡ pairs_weight (pairs (map as_pair entries.now.items)) + 5) }
-    ensures sizes { IsMakingOf (table (pairs (map as_pair entries.now.items))) result }
+pub(crate) fn sizes_of_entries(entries: &Chunks<Entry>) -> Result<(u32, u64), ValueFault>
+    ensures height { IfOk result (λ p. p.0 ≡ pairs_height (pairs (map as_pair entries.now))) }
+    ensures weight { IfOk result (λ p. p.1 ≡ pairs_weight (pairs (map as_pair entries.now)) + 5) }
+    ensures sizes { IsMakingOf (table (pairs (map as_pair entries.now))) result }
 {
     if entries.len() > MOST_ELEMENTS {
         return Err(ValueFault::TooLong);
@@ -62,9 +64,9 @@ pub(crate) fn sizes_of_entries(entries: &VecDeque<Entry>) -> Result<(u32, u64), 
 }
 
 /// The height of a value of these parts, which is at most `most`.
-fn tallest(parts: &VecDeque<Value>, most: u32) -> u32
-    requires { trees_height (trees parts.now.items) ≤ most }
-    ensures { result ≡ trees_height (trees parts.now.items) }
+fn tallest(parts: &Chunks<Value>, most: u32) -> u32
+    requires { trees_height (trees parts.now) ≤ most }
+    ensures { result ≡ trees_height (trees parts.now) }
 {
     let mut height: u32 = 0;
     for i in 0..parts.len() {
@@ -77,9 +79,9 @@ fn tallest(parts: &VecDeque<Value>, most: u32) -> u32
 }
 
 /// The height of a table of these entries, which is at most `most`.
-fn tallest_entry(entries: &VecDeque<Entry>, most: u32) -> u32
-    requires { pairs_height (pairs (map as_pair entries.now.items)) ≤ most }
-    ensures { result ≡ pairs_height (pairs (map as_pair entries.now.items)) }
+fn tallest_entry(entries: &Chunks<Entry>, most: u32) -> u32
+    requires { pairs_height (pairs (map as_pair entries.now)) ≤ most }
+    ensures { result ≡ pairs_height (pairs (map as_pair entries.now)) }
 {
     let mut height: u32 = 0;
     for i in 0..entries.len() {
@@ -93,9 +95,9 @@ fn tallest_entry(entries: &VecDeque<Entry>, most: u32) -> u32
 
 /// The height of a list of these elements, which had the height `was` with one more, of height `gone`. It is looked for
 /// only where that one may have been the tallest.
-pub(crate) fn height_without(parts: &VecDeque<Value>, was: u32, gone: u32) -> u32
-    requires { was ≡ max (gone + 1) (trees_height (trees parts.now.items)) }
-    ensures { result ≡ trees_height (trees parts.now.items) }
+pub(crate) fn height_without(parts: &Chunks<Value>, was: u32, gone: u32) -> u32
+    requires { was ≡ max (gone + 1) (trees_height (trees parts.now)) }
+    ensures { result ≡ trees_height (trees parts.now) }
 {
     if gone + 1 < was {
         return was;
@@ -105,9 +107,9 @@ pub(crate) fn height_without(parts: &VecDeque<Value>, was: u32, gone: u32) -> u3
 
 /// The height of a table of these entries, which had the height `was` when a part stood in it that reaches `gone`; now one
 /// that reaches `came` stands there, or none, which is 0. It is looked for only where the tallest part went.
-pub(crate) fn height_after(entries: &VecDeque<Entry>, was: u32, gone: u32, came: u32) -> u32
-    requires { (rest : ℕ) × (was ≡ max gone rest) × (pairs_height (pairs (map as_pair entries.now.items)) ≡ max came rest) }
-    ensures { result ≡ pairs_height (pairs (map as_pair entries.now.items)) }
+pub(crate) fn height_after(entries: &Chunks<Entry>, was: u32, gone: u32, came: u32) -> u32
+    requires { (rest : ℕ) × (was ≡ max gone rest) × (pairs_height (pairs (map as_pair entries.now)) ≡ max came rest) }
+    ensures { result ≡ pairs_height (pairs (map as_pair entries.now)) }
 {
     if gone < was {
         return was.max(came);
@@ -116,6 +118,48 @@ pub(crate) fn height_after(entries: &VecDeque<Entry>, was: u32, gone: u32, came:
         return came;
     }
     tallest_entry(entries, was)
+}
+
+/// The height of a table of these entries, which has the height `was`, once the associate at this place reaches `came`. It is
+/// looked for only where the tallest part goes.
+pub(crate) fn height_with(entries: &Chunks<Entry>, place: usize, was: u32, came: u32) -> u32
+    requires place { place < length entries.now }
+    requires height { was ≡ pairs_height (pairs (map as_pair entries.now)) }
+    ensures { result ≡ max came (others_height entries.now place) }
+{
+    let gone = entries[place].associate.height() + 1;
+    if gone < was {
+        return was.max(came);
+    }
+    if came >= was {
+        return came;
+    }
+    came.max(tallest_other(entries, place))
+}
+
+/// The height of a table of these entries, were the associate at this place not there.
+fn tallest_other(entries: &Chunks<Entry>, place: usize) -> u32
+    requires { place < length entries.now }
+    ensures { result ≡ others_height entries.now place }
+{
+    let end = entries.len();
+    let before = tallest_between(entries, 0, place);
+    let here = entries[place].key.height() + 1;
+    let behind = tallest_between(entries, place + 1, end);
+    before.max(here).max(behind)
+}
+
+/// The height of a table of the entries at these places.
+fn tallest_between(entries: &Chunks<Entry>, from: usize, to: usize) -> u32
+    requires from { from ≤ to }
+    requires to { to ≤ length entries.now }
+    ensures { result ≡ pairs_height (pairs (map as_pair (between from to entries.now))) }
+{
+    let mut height: u32 = 0;
+    for i in from..to {
+        height = height.max(entry_height(&entries[i]));
+    }
+    height
 }
 
 /// One more than the greater height of a key and its associate.
@@ -136,11 +180,11 @@ pub(crate) fn entry_weight(entry: &Entry) -> u64
 }
 
 /// The sum of the weights of these keys and associates.
-fn total_entry_weight(entries: &VecDeque<Entry>) -> u64
-    requires { length entries.now.items ≤ MOST_ELEMENTS }
-    ensures weight { result ≡ pairs_weight (pairs (map as_pair entries.now.items)) }
-    ensures bound { result ≤ length entries.now.items * (2 * MOST_WEIGHT) }
-    ensures regular { AllRegularPairs (pairs (map as_pair entries.now.items)) }
+fn total_entry_weight(entries: &Chunks<Entry>) -> u64
+    requires { length entries.now ≤ MOST_ELEMENTS }
+    ensures weight { result ≡ pairs_weight (pairs (map as_pair entries.now)) }
+    ensures bound { result ≤ length entries.now * (2 * MOST_WEIGHT) }
+    ensures regular { AllRegularPairs (pairs (map as_pair entries.now)) }
 {
     let mut weight: u64 = 0;
     for i in 0..entries.len() {
@@ -150,11 +194,11 @@ fn total_entry_weight(entries: &VecDeque<Entry>) -> u64
 }
 
 /// The sum of the weights of these parts.
-pub(crate) fn total_weight(parts: &VecDeque<Value>) -> u64
-    requires { length parts.now.items ≤ MOST_ELEMENTS }
-    ensures weight { result ≡ trees_weight (trees parts.now.items) }
-    ensures bound { result ≤ length parts.now.items * MOST_WEIGHT }
-    ensures regular { AllRegular (trees parts.now.items) }
+pub(crate) fn total_weight(parts: &Chunks<Value>) -> u64
+    requires { length parts.now ≤ MOST_ELEMENTS }
+    ensures weight { result ≡ trees_weight (trees parts.now) }
+    ensures bound { result ≤ length parts.now * MOST_WEIGHT }
+    ensures regular { AllRegular (trees parts.now) }
 {
     let mut weight: u64 = 0;
     for i in 0..parts.len() {

@@ -4,10 +4,11 @@ ghost use Rattle.abc_value.specs.Tree.{number, text, list, empty};
 ghost use Rattle.abc_value.specs.Sizes.{height_of, weight_of};
 ghost use Rattle.abc_value.specs.Regular.{IsRegular};
 
+use abc_chunks::Chunks;
 use abc_num::Num;
-use std::alloc::Global;
-use std::collections::VecDeque;
+use std::alloc::{AllocError, Global};
 use std::marker::Model;
+use std::rc::Rc;
 
 /// What kind of value a value is.
 #[derive(Clone, Copy, PartialEq, Eq, Debug)]
@@ -32,15 +33,16 @@ pub struct Value {
     pub(crate) weight: u64,
 }
 
-/// A list without elements is `{}`, and a table has a pair at least. Elements and keys stand in order.
+/// A list without elements is `{}`, and a table has a pair at least. Elements and keys stand in order. Copies share what a node
+/// holds; a text never changes, so it is one piece.
 #[cycle(value)]
 #[derive(Drop)]
 pub(crate) enum Node {
     Number(Num),
-    Text(Vec<u8>),
-    Compound(VecDeque<Value>),
-    List(VecDeque<Value>),
-    Table(VecDeque<Entry>),
+    Text(Rc<Vec<u8>>),
+    Compound(Chunks<Value>),
+    List(Chunks<Value>),
+    Table(Chunks<Entry>),
 }
 
 /// A key of a table and its associate.
@@ -75,6 +77,19 @@ impl Model for Value {
     ghost size_decreases = { λ v h. deep-height v.node };
 }
 
+impl Clone for Entry {
+    ghost use Rattle.std.specs.Prelude.{◌≡◌};
+
+    ghost is_clone = { λ entry copy. copy ≡ entry };
+
+    fn clone(&self) -> Result<Entry, AllocError> {
+        Ok(Entry {
+            key: self.key.clone()?,
+            associate: self.associate.clone()?,
+        })
+    }
+}
+
 impl Value {
     /// The value that is this number.
     #[tactic(auto, unfolding(crate::specs::Regular::IsRegular))]
@@ -95,7 +110,7 @@ impl Value {
         ensures { result ≡ empty }
     {
         Value {
-            node: Node::List(VecDeque::new(alloc)),
+            node: Node::List(Chunks::new(alloc)),
             height: 0,
             weight: 5,
         }

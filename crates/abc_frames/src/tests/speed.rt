@@ -33,3 +33,34 @@ fn a_long_table_is_quick(rt: HostRuntime) -> Result<(), ValueFault> {
     }
     Ok(())
 }
+
+/// A list that the numbers come to in no order, and then as many copies of it.
+#[test]
+fn any_order_is_quick(rt: HostRuntime) -> Result<(), ValueFault> {
+    let mut all = Value::empty(rt.alloc());
+    for k in 0..1_000_000u64 {
+        all.insert(whole((k * 7_919 % 1_000_003) as i64))?;
+    }
+    for _ in 0..1_000_000u32 {
+        let copy = all.copy()?;
+        assert!(rt; copy.len() == all.len());
+    }
+    Ok(())
+}
+
+/// A copy that is changed leaves the list that it was taken of.
+#[test]
+fn a_changed_copy_leaves_the_list(rt: HostRuntime) -> Result<(), ValueFault> {
+    let mut all = Value::empty(rt.alloc());
+    for k in 0..1_000u32 {
+        all.insert(whole(i64::from(k)))?;
+    }
+    let mut copy = all.copy()?;
+    copy.insert(whole(-1))?;
+    copy.remove(&whole(500))?;
+    assert!(rt; copy.len() == 1_000 && is_whole(copy.part(0), -1));
+    for k in 0..1_000usize {
+        assert!(rt; is_whole(all.part(k), k as i64));
+    }
+    Ok(())
+}

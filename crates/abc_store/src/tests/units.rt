@@ -22,7 +22,7 @@ use std::alloc::Global;
 use std::test::Fail;
 
 /// One line.
-fn one_line(alloc: Global, text: &[u8]) -> Result<ItemLines, OutOfMemory>
+pub(super) fn one_line(alloc: Global, text: &[u8]) -> Result<ItemLines, OutOfMemory>
     requires { AreCharacters text.now × (length text.now ≤ MOST_LINE_BYTES) × IsFlush text.now }
     ensures { IfOk result (λ lines. AreKeptLines lines) }
 {

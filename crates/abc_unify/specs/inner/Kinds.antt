@@ -1,4 +1,4 @@
--- What a kind says of a type, and what two kinds of one variable come to.
+-- What a kind says of a type, and what the merge of two kinds comes to.
 use Rattle.std.specs.Prelude.{◌≡◌, ℕ, ◌+◌, ◌*◌, ◌<◌, ◌↔◌, List, [], ◌∷◌, length}
 use Rattle.std.specs.List.{All}
 use Rattle.abc_num.specs.declared.types.Ground.{Ground, out-Ground}
@@ -8,12 +8,12 @@ use Rattle.abc_terms.specs.Nodes.{AreIn}
 use Rattle.abc_unify.specs.Outer.{types, IsTrain, IsCollection, IsPlain}
 use Rattle.abc_unify.specs.declared.kind.Kind.{Kind}
 use Rattle.abc_unify.specs.declared.kind.Kind.TheVariants.{Free, Number, Text, NumberOrText, ListOf, TableOf, TrainOf, CollectionOf, Compound}
-use Rattle.abc_unify.specs.declared.kind.Ask.{Ask}
-use Rattle.abc_unify.specs.declared.kind.Ask.TheVariants.{Equal, Is}
-use Rattle.abc_unify.specs.declared.kind.Met.{Met}
-use Rattle.abc_unify.specs.declared.kind.Met.TheVariants.{Clash, Keep, Put}
-use Rattle.abc_unify.specs.declared.kind.More.{More}
-use Rattle.abc_unify.specs.declared.kind.More.TheVariants.{Nothing, One, Two, Parts}
+use Rattle.abc_unify.specs.declared.kind.Constraint.{Constraint}
+use Rattle.abc_unify.specs.declared.kind.Constraint.TheVariants.{Equal, Is}
+use Rattle.abc_unify.specs.declared.kind.Merge.{Merge}
+use Rattle.abc_unify.specs.declared.kind.Merge.TheVariants.{Clash, Keep, Put}
+use Rattle.abc_unify.specs.declared.kind.Residue.{Residue}
+use Rattle.abc_unify.specs.declared.kind.Residue.TheVariants.{Nothing, One, Two, Parts}
 
 -- a type of this outer form is of the kind, where the variables have the types `v`
 abbrev pub Fits : (ℕ → Ground) → Ground-F Ground → Kind → Type 0
@@ -27,14 +27,14 @@ Fits v g (TrainOf e) = IsTrain g (v e.0)
 Fits v g (CollectionOf e) = IsCollection g (v e.0)
 Fits v g (Compound fields) = g ≡ Ground-F.Compound (types v fields)
 
--- what is asked holds
-abbrev pub AskHolds : (ℕ → Ground) → Ask → Type 0
-AskHolds v (Equal a b) = v a.0 ≡ v b.0
-AskHolds v (Is a k) = Fits v (out-Ground (v a.0)) k
+-- the constraint holds
+abbrev pub ConstraintHolds : (ℕ → Ground) → Constraint → Type 0
+ConstraintHolds v (Equal a b) = v a.0 ≡ v b.0
+ConstraintHolds v (Is a k) = Fits v (out-Ground (v a.0)) k
 
--- all that is asked holds
-abbrev pub AsksHold : (ℕ → Ground) → List Ask → Type 0
-AsksHold v asks = All (AskHolds v) asks
+-- all constraints hold
+abbrev pub ConstraintsHold : (ℕ → Ground) → List Constraint → Type 0
+ConstraintsHold v constraints = All (ConstraintHolds v) constraints
 
 -- the variables that a kind names
 abbrev pub children : Kind → List VarId
@@ -52,34 +52,34 @@ children (Compound fields) = fields
 abbrev pub KindIn : ℕ → Kind → Type 0
 KindIn n k = AreIn n (children k)
 
--- what is asked is of some of the first n variables
-abbrev pub AskIn : ℕ → Ask → Type 0
-AskIn n (Equal a b) = (a.0 < n) × (b.0 < n)
-AskIn n (Is a k) = (a.0 < n) × KindIn n k
+-- the constraint names only some of the first n variables
+abbrev pub ConstraintIn : ℕ → Constraint → Type 0
+ConstraintIn n (Equal a b) = (a.0 < n) × (b.0 < n)
+ConstraintIn n (Is a k) = (a.0 < n) × KindIn n k
 
--- all that is asked is of some of the first n variables
-abbrev pub AsksIn : ℕ → List Ask → Type 0
-AsksIn n asks = All (AskIn n) asks
+-- all constraints name only some of the first n variables
+abbrev pub ConstraintsIn : ℕ → List Constraint → Type 0
+ConstraintsIn n constraints = All (ConstraintIn n) constraints
 
 -- each of the one list is equal to its fellow of the other
-abbrev pub pairs : List VarId → List VarId → List Ask
+abbrev pub pairs : List VarId → List VarId → List Constraint
 pairs [] ys = []
 pairs (x ∷ xs) [] = []
 pairs (x ∷ xs) (y ∷ ys) = Equal x y ∷ pairs xs ys
 
--- what is asked besides, where a kind was held
-abbrev pub asks_of : Kind → More → List Ask
-asks_of held Nothing = []
-asks_of held (One d) = d ∷ []
-asks_of held (Two d e) = d ∷ (e ∷ [])
-asks_of held (Parts fields) = pairs (children held) fields
+-- the constraints of a residue, where a kind was held
+abbrev pub constraints_of : Kind → Residue → List Constraint
+constraints_of held Nothing = []
+constraints_of held (One d) = d ∷ []
+constraints_of held (Two d e) = d ∷ (e ∷ [])
+constraints_of held (Parts fields) = pairs (children held) fields
 
--- it is asked besides, as a fact and not yet as a list
-abbrev pub MoreHolds : (ℕ → Ground) → Kind → More → Type 0
-MoreHolds v held Nothing = Unit {0}
-MoreHolds v held (One d) = AskHolds v d
-MoreHolds v held (Two d e) = AskHolds v d × AskHolds v e
-MoreHolds v held (Parts fields) = types v (children held) ≡ types v fields
+-- the residue holds, as a fact and not yet as a list
+abbrev pub ResidueHolds : (ℕ → Ground) → Kind → Residue → Type 0
+ResidueHolds v held Nothing = Unit {0}
+ResidueHolds v held (One d) = ConstraintHolds v d
+ResidueHolds v held (Two d e) = ConstraintHolds v d × ConstraintHolds v e
+ResidueHolds v held (Parts fields) = types v (children held) ≡ types v fields
 
 -- parts are of a compound with as many fields
 abbrev pub HasParts : ℕ → Kind → Type 0
@@ -93,41 +93,41 @@ HasParts n (TrainOf e) = ⊥
 HasParts n (CollectionOf e) = ⊥
 HasParts n (Compound fields) = length fields ≡ n
 
--- what is asked besides suits the kind that was held
-abbrev pub MoreFits : Kind → More → Type 0
-MoreFits held Nothing = Unit {0}
-MoreFits held (One d) = Unit {0}
-MoreFits held (Two d e) = Unit {0}
-MoreFits held (Parts fields) = HasParts (length fields) held
+-- the residue suits the kind that was held
+abbrev pub ResidueFits : Kind → Residue → Type 0
+ResidueFits held Nothing = Unit {0}
+ResidueFits held (One d) = Unit {0}
+ResidueFits held (Two d e) = Unit {0}
+ResidueFits held (Parts fields) = HasParts (length fields) held
 
--- the same of what two kinds come to
-abbrev pub MetFits : Kind → Met → Type 0
-MetFits held Clash = Unit {0}
-MetFits held (Keep more) = MoreFits held more
-MetFits held (Put k more) = MoreFits held more
+-- the same of the residue of a merge
+abbrev pub MergeFits : Kind → Merge → Type 0
+MergeFits held Clash = Unit {0}
+MergeFits held (Keep residue) = ResidueFits held residue
+MergeFits held (Put k residue) = ResidueFits held residue
 
--- what two kinds of one variable come to
-abbrev pub MetBy : (ℕ → Ground) → Ground-F Ground → Kind → Kind → Met → Type 0
-MetBy v g held asked Clash = Fits v g held → Fits v g asked → ⊥
-MetBy v g held asked (Keep more) = (Fits v g held × Fits v g asked) ↔ (Fits v g held × MoreHolds v held more)
-MetBy v g held asked (Put k more) = (Fits v g held × Fits v g asked) ↔ (Fits v g k × MoreHolds v held more)
+-- the merge says the same as the two kinds of one variable
+abbrev pub MergesTo : (ℕ → Ground) → Ground-F Ground → Kind → Kind → Merge → Type 0
+MergesTo v g held added Clash = Fits v g held → Fits v g added → ⊥
+MergesTo v g held added (Keep residue) = (Fits v g held × Fits v g added) ↔ (Fits v g held × ResidueHolds v held residue)
+MergesTo v g held added (Put k residue) = (Fits v g held × Fits v g added) ↔ (Fits v g k × ResidueHolds v held residue)
 
--- two kinds of one variable come to this, whatever types there are
-abbrev pub IsMeeting : Kind → Kind → Met → Type 0
-IsMeeting held asked met = (v : ℕ → Ground) (g : Ground-F Ground) → MetBy v g held asked met
+-- the two kinds of one variable merge to this, whatever types there are
+abbrev pub IsMerge : Kind → Kind → Merge → Type 0
+IsMerge held added merge = (v : ℕ → Ground) (g : Ground-F Ground) → MergesTo v g held added merge
 
--- what is asked besides is of some of the first n variables
-abbrev pub MoreIn : ℕ → More → Type 0
-MoreIn n Nothing = Unit {0}
-MoreIn n (One d) = AskIn n d
-MoreIn n (Two d e) = AskIn n d × AskIn n e
-MoreIn n (Parts fields) = AreIn n fields
+-- the residue names only some of the first n variables
+abbrev pub ResidueIn : ℕ → Residue → Type 0
+ResidueIn n Nothing = Unit {0}
+ResidueIn n (One d) = ConstraintIn n d
+ResidueIn n (Two d e) = ConstraintIn n d × ConstraintIn n e
+ResidueIn n (Parts fields) = AreIn n fields
 
--- what two kinds come to names only some of the first n variables
-abbrev pub MetIn : ℕ → Met → Type 0
-MetIn n Clash = Unit {0}
-MetIn n (Keep more) = MoreIn n more
-MetIn n (Put k more) = KindIn n k × MoreIn n more
+-- the merge names only some of the first n variables
+abbrev pub MergeIn : ℕ → Merge → Type 0
+MergeIn n Clash = Unit {0}
+MergeIn n (Keep residue) = ResidueIn n residue
+MergeIn n (Put k residue) = KindIn n k × ResidueIn n residue
 
 -- what is still to do, as a number that falls
 abbrev pub kind_weight : Kind → ℕ
@@ -141,20 +141,20 @@ kind_weight (TrainOf e) = 4
 kind_weight (CollectionOf e) = 4
 kind_weight (Compound fields) = 3 * length fields + 1
 
--- the same of what is asked
-abbrev pub ask_weight : Ask → ℕ
-ask_weight (Equal a b) = 3
-ask_weight (Is a k) = kind_weight k + 1
+-- the same of a constraint
+abbrev pub constraint_weight : Constraint → ℕ
+constraint_weight (Equal a b) = 3
+constraint_weight (Is a k) = kind_weight k + 1
 
--- the same of what is asked besides
-abbrev pub more_weight : More → ℕ
-more_weight Nothing = 0
-more_weight (One d) = ask_weight d
-more_weight (Two d e) = ask_weight d + ask_weight e
-more_weight (Parts fields) = 3 * length fields
+-- the same of a residue
+abbrev pub residue_weight : Residue → ℕ
+residue_weight Nothing = 0
+residue_weight (One d) = constraint_weight d
+residue_weight (Two d e) = constraint_weight d + constraint_weight e
+residue_weight (Parts fields) = 3 * length fields
 
--- the same of what two kinds come to
-abbrev pub met_weight : Kind → Met → ℕ
-met_weight held Clash = 0
-met_weight held (Keep more) = kind_weight held + more_weight more
-met_weight held (Put k more) = kind_weight k + more_weight more
+-- the same of a merge
+abbrev pub merge_weight : Kind → Merge → ℕ
+merge_weight held Clash = 0
+merge_weight held (Keep residue) = kind_weight held + residue_weight residue
+merge_weight held (Put k residue) = kind_weight k + residue_weight residue

@@ -1,14 +1,16 @@
--- What slots and the list of what is still asked say together.
-use Rattle.std.specs.Prelude.{◌≡◌, ℕ, zero, suc, ◌+◌, ◌<◌, ◌⊎◌, List, [], ◌∷◌, slice_index_or, length, Bool, true, false}
+-- What slots and the pending constraints say together.
+use Rattle.std.specs.Prelude.{◌≡◌, ℕ, zero, suc, ◌+◌, ◌<◌, ◌⊎◌, List, [], ◌∷◌, slice_index_or, length}
 use Rattle.std.specs.List.{sum_by}
 use Rattle.abc_num.specs.declared.types.Ground.{Ground, out-Ground}
 use Rattle.abc_unify.specs.declared.kind.Kind.{Kind}
 use Rattle.abc_unify.specs.declared.kind.Kind.TheVariants.{Free}
 use Rattle.abc_unify.specs.declared.kind.Slot.{Slot}
 use Rattle.abc_unify.specs.declared.kind.Slot.TheVariants.{Root, Link}
-use Rattle.abc_unify.specs.declared.kind.Ask.{Ask}
+use Rattle.abc_unify.specs.declared.kind.Constraint.{Constraint}
+use Rattle.abc_unify.specs.declared.kind.Solving.{Solving}
+use Rattle.abc_unify.specs.declared.kind.Solving.TheVariants.{Solved, Clash}
 use Rattle.abc_terms.specs.declared.term.VarId.{VarId}
-use Rattle.abc_unify.specs.inner.Kinds.{Fits, AsksHold, KindIn, children, kind_weight, ask_weight}
+use Rattle.abc_unify.specs.inner.Kinds.{Fits, ConstraintsHold, KindIn, children, kind_weight, constraint_weight}
 
 -- a slot is itself a demand on its variable
 abbrev pub SlotHolds : (ℕ → Ground) → Ground → Slot → Type 0
@@ -19,19 +21,19 @@ SlotHolds v g (Link b) = g ≡ v b.0
 abbrev pub Meets : (ℕ → Ground) → List Slot → Type 0
 Meets v slots = (i : ℕ) → SlotHolds v (v i) (slice_index_or slots i (Root Free))
 
--- no types meet the slots and what is asked
-abbrev pub HasNoSolution : List Slot → List Ask → Type 0
-HasNoSolution slots work = (v : ℕ → Ground) → Meets v slots → AsksHold v work → ⊥
+-- no types meet the slots and the constraints
+abbrev pub HasNoSolution : List Slot → List Constraint → Type 0
+HasNoSolution slots work = (v : ℕ → Ground) → Meets v slots → ConstraintsHold v work → ⊥
 
 -- the types that meet the one meet the other
-pub record KeepsSolutions (slots : List Slot) (work : List Ask) (slots2 : List Slot) (work2 : List Ask) : Type 0 where
-  pub onward : (v : ℕ → Ground) → Meets v slots → AsksHold v work → Meets v slots2 × AsksHold v work2
-  pub back : (v : ℕ → Ground) → Meets v slots2 → AsksHold v work2 → Meets v slots × AsksHold v work
+pub record KeepsSolutions (slots : List Slot) (work : List Constraint) (slots2 : List Slot) (work2 : List Constraint) : Type 0 where
+  pub onward : (v : ℕ → Ground) → Meets v slots → ConstraintsHold v work → Meets v slots2 × ConstraintsHold v work2
+  pub back : (v : ℕ → Ground) → Meets v slots2 → ConstraintsHold v work2 → Meets v slots × ConstraintsHold v work
 
 -- what a step did: it kept the solutions, or there are none
-abbrev pub Stepped : Bool → List Slot → List Ask → List Slot → List Ask → Type 0
-Stepped true slots work slots2 work2 = KeepsSolutions slots work slots2 work2
-Stepped false slots work slots2 work2 = HasNoSolution slots work
+abbrev pub Stepped : Solving → List Slot → List Constraint → List Slot → List Constraint → Type 0
+Stepped Solved slots work slots2 work2 = KeepsSolutions slots work slots2 work2
+Stepped Clash slots work slots2 work2 = HasNoSolution slots work
 
 -- a kind names only some of the first n variables; a link leads to a smaller number than i
 abbrev pub SlotIn : ℕ → ℕ → Slot → Type 0
@@ -52,9 +54,9 @@ abbrev pub slot_weight : Slot → ℕ
 slot_weight (Root k) = kind_weight k
 slot_weight (Link b) = 0
 
--- the same of all slots and all that is asked
-abbrev pub weight : List Slot → List Ask → ℕ
-weight slots work = sum_by slot_weight slots + sum_by ask_weight work
+-- the same of all slots and all constraints
+abbrev pub weight : List Slot → List Constraint → ℕ
+weight slots work = sum_by slot_weight slots + sum_by constraint_weight work
 
 -- two links in a row lead from the one variable to the other
 abbrev pub LeadsPast : List Slot → ℕ → VarId → Type 0

@@ -1,9 +1,7 @@
-use Rattle.std.proofs.Common.{ℕ, List, Option, Some, ◌≡◌}
 use Rattle.std.specs.Option.{option_map}
 use Rattle.std.specs.Map.Iter.{deref_pair}
-use Rattle.abc_value.specs.Tree.{Tree}
 use Rattle.abc_frames.specs.inner.Merging.{shown}
-use Rattle.abc_frames.proofs.Turning.{next_turn, next_smaller}
+use Rattle.abc_frames.proofs.Turning.{next_turn}
 use Rattle.abc_frames.proofs.targets.changes_between.Goals as goal
 
 pub loop-front-preserved : goal.loop-front-preserved

@@ -1,4 +1,4 @@
-use Rattle.std.proofs.Common.{◌<◌, length, sym, subst, arith}
+use Rattle.std.proofs.Common.{length, sym, subst, arith}
 use Rattle.abc_terms.specs.Nodes.{AreIn}
 use Rattle.abc_unify.proofs.Among.{are_in_place}
 use Rattle.abc_unify.proofs.Logging.{logged_nothing, logged_then}

@@ -1,4 +1,4 @@
-use Rattle.std.proofs.Common.{◌≡◌, ◌<◌, length, get_or, sym, subst, arith}
+use Rattle.std.proofs.Common.{◌<◌, length, get_or, sym, subst, arith}
 use Rattle.abc_unify.specs.inner.Logs.{EntryIn}
 use Rattle.abc_unify.proofs.Logging.{logged_nothing, logged_then}
 use Rattle.abc_unify.proofs.Shortening.{shortened_nothing, shortened_then, written_at}

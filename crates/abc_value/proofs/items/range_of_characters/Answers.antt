@@ -19,4 +19,4 @@ loop-k-preserved c =
 pub ordered_list-requires : goal.ordered_list-requires
 ordered_list-requires c =
     let P : List Tree → Type 0 = λ xs. IsOrdered (trees xs) in
-    subst P (sym (c.from_vec.ensures.items ∙ c.loop-k.invariant)) (characters_ordered (get_or c.args.b.now 0 0) c.loop-k.k)
+    subst P (sym (c.in_ok-from_vec.ensures ∙ c.loop-k.invariant)) (characters_ordered (get_or c.args.b.now 0 0) c.loop-k.k)

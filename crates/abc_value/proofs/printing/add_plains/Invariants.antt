@@ -7,5 +7,5 @@ use Rattle.abc_value.proofs.printing.add_plains.Given as goal
 
 abbrev pub invariant-loop-i : goal.invariant-loop-i
 invariant-loop-i l =
-    let texts = plains (trees l.fields.items) in
+    let texts = plains (trees l.fields) in
     IsGoing l.fn.bytes.items (joined (codes " ") texts) l.bytes.items (left (codes " ") l.i (drop l.i texts)) l.most

@@ -5,4 +5,4 @@ use Rattle.abc_value.specs.View.{as_pair}
 use Rattle.abc_value.proofs.sizes.tallest_entry.Given as goal
 
 abbrev pub invariant-loop-i : goal.invariant-loop-i
-invariant-loop-i l = l.height ≡ pairs_height (pairs (map as_pair (take l.i l.entries.items)))
+invariant-loop-i l = l.height ≡ pairs_height (pairs (map as_pair (take l.i l.entries)))

@@ -10,10 +10,10 @@ overflow_add-weight c = omega (arith, c.entry_weight-weight.ensures.bound, c.loo
 
 pub loop-i-preserved : goal.loop-i-preserved
 loop-i-preserved c = record {
-  sum = ap (λ w. c.loop-i.weight + w) c.entry_weight-weight.ensures.weight ∙ heavier_entry c.args.entries.now.items c.loop-i.i c.loop-i.weight c.index.result.now (omega arith) c.index.ensures c.loop-i.invariant.sum;
+  sum = ap (λ w. c.loop-i.weight + w) c.entry_weight-weight.ensures.weight ∙ heavier_entry c.args.entries.now c.loop-i.i c.loop-i.weight c.index.result.now (omega arith) c.index.ensures c.loop-i.invariant.sum;
   fits = omega (arith, c.entry_weight-weight.ensures.bound, c.loop-i.invariant.fits);
-  regular = regular_entry_more c.args.entries.now.items c.loop-i.i c.index.result.now (omega arith) c.index.ensures c.entry_weight-weight.ensures.regular c.loop-i.invariant.regular;
+  regular = regular_entry_more c.args.entries.now c.loop-i.i c.index.result.now (omega arith) c.index.ensures c.entry_weight-weight.ensures.regular c.loop-i.invariant.regular;
 }
 
 pub returns-clause-regular : goal.returns-clause-regular
-returns-clause-regular c = entries_regular_at_end c.args.entries.now.items c.loop-i.i (omega arith) c.loop-i.invariant.regular
+returns-clause-regular c = entries_regular_at_end c.args.entries.now c.loop-i.i (omega arith) c.loop-i.invariant.regular

@@ -8,7 +8,7 @@ use Rattle.abc_value.proofs.sizes.total_entry_weight.Given as goal
 
 abbrev pub invariant-loop-i : goal.invariant-loop-i
 invariant-loop-i l = record {
-  sum : l.weight ≡ pairs_weight (pairs (map as_pair (take l.i l.entries.items)));
+  sum : l.weight ≡ pairs_weight (pairs (map as_pair (take l.i l.entries)));
   fits : l.weight ≤ l.i * (2 * MOST_WEIGHT);
-  regular : AllRegularPairs (pairs (map as_pair (take l.i l.entries.items)));
+  regular : AllRegularPairs (pairs (map as_pair (take l.i l.entries)));
 }

@@ -12,10 +12,10 @@ pub loop-i-preserved : goal.loop-i-preserved
 loop-i-preserved c =
     let s = regular_sizes c.index.result.now c.weight-weight.ensures.regular in
     record {
-      sum = ap (λ w. c.loop-i.weight + w) c.weight-weight.ensures.weight ∙ heavier c.args.parts.now.items c.loop-i.i c.loop-i.weight c.index.result.now (omega arith) c.index.ensures c.loop-i.invariant.sum;
+      sum = ap (λ w. c.loop-i.weight + w) c.weight-weight.ensures.weight ∙ heavier c.args.parts.now c.loop-i.i c.loop-i.weight c.index.result.now (omega arith) c.index.ensures c.loop-i.invariant.sum;
       fits = omega (arith, s.1, c.weight-weight.ensures.weight, c.loop-i.invariant.fits);
-      regular = one_regular_more c.args.parts.now.items c.loop-i.i c.index.result.now (omega arith) c.index.ensures c.weight-weight.ensures.regular c.loop-i.invariant.regular;
+      regular = one_regular_more c.args.parts.now c.loop-i.i c.index.result.now (omega arith) c.index.ensures c.weight-weight.ensures.regular c.loop-i.invariant.regular;
     }
 
 pub returns-clause-regular : goal.returns-clause-regular
-returns-clause-regular c = regular_at_end c.args.parts.now.items c.loop-i.i (omega arith) c.loop-i.invariant.regular
+returns-clause-regular c = regular_at_end c.args.parts.now c.loop-i.i (omega arith) c.loop-i.invariant.regular

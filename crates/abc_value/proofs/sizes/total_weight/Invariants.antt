@@ -7,7 +7,7 @@ use Rattle.abc_value.proofs.sizes.total_weight.Given as goal
 
 abbrev pub invariant-loop-i : goal.invariant-loop-i
 invariant-loop-i l = record {
-  sum : l.weight ≡ trees_weight (trees (take l.i l.parts.items));
+  sum : l.weight ≡ trees_weight (trees (take l.i l.parts));
   fits : l.weight ≤ l.i * MOST_WEIGHT;
-  regular : AllRegular (trees (take l.i l.parts.items));
+  regular : AllRegular (trees (take l.i l.parts));
 }

@@ -6,5 +6,5 @@ use Rattle.abc_value.proofs.value.Value.key.Goals as goal
 
 pub returns-in-Table : goal.returns-in-Table
 returns-in-Table c =
-    c.nth_key.ensures ∙ nth_of_keys c.in-Table.entries.items c.args.i
+    c.nth_key.ensures ∙ nth_of_keys c.in-Table.entries c.args.i
     ∙ ap (λ n. slice_get (keys_of (node_tree n)) c.args.i) (sym c.in-Table.is) ∙ ap (λ t. slice_get (keys_of t) c.args.i) c.self.view_is

@@ -12,4 +12,4 @@ list_kind (x ∷ xs) h = refl
 
 pub returns-in-List-2 : goal.returns-in-List-2
 returns-in-List-2 c =
-    list_kind c.in-List.parts.items (λ h. let t = c.is_empty.ensures in grind (arith, nat_tests)) ∙ ap (λ n. kind_of (node_tree n)) (sym c.in-List.is) ∙ ap kind_of c.self.view_is
+    list_kind c.in-List.parts (λ h. let t = c.is_empty.ensures in grind (arith, nat_tests)) ∙ ap (λ n. kind_of (node_tree n)) (sym c.in-List.is) ∙ ap kind_of c.self.view_is

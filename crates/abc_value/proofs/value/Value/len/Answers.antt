@@ -8,14 +8,14 @@ use Rattle.abc_value.proofs.value.Value.len.Goals as goal
 pub returns-in-Compound-clause-length : goal.returns-in-Compound-clause-length
 returns-in-Compound-clause-length c =
     let is = ap (λ n. length_of (node_tree n)) (sym c.in-Compound.is) ∙ ap length_of c.self.view_is in
-    omega (arith, is, count_trees c.in-Compound.parts.items)
+    omega (arith, is, count_trees c.in-Compound.parts)
 
 pub returns-in-List-clause-length : goal.returns-in-List-clause-length
 returns-in-List-clause-length c =
     let is = ap (λ n. length_of (node_tree n)) (sym c.in-List.is) ∙ ap length_of c.self.view_is in
-    omega (arith, is, count_trees c.in-List.parts.items)
+    omega (arith, is, count_trees c.in-List.parts)
 
 pub returns-in-Table-clause-length : goal.returns-in-Table-clause-length
 returns-in-Table-clause-length c =
     let is = ap (λ n. length_of (node_tree n)) (sym c.in-Table.is) ∙ ap length_of c.self.view_is in
-    omega (arith, is, count_pairs_pairs (map as_pair c.in-Table.entries.items), length-map c.in-Table.entries.items as_pair)
+    omega (arith, is, count_pairs_pairs (map as_pair c.in-Table.entries), length-map c.in-Table.entries as_pair)

@@ -1,10 +1,23 @@
-use Rattle.abc_value.proofs.Collecting.{none_collected, one_collected}
+use Rattle.std.proofs.Common.{List, sym, ap, ◌∙◌, ◌≡◌, subst}
+use Rattle.std.proofs.lemmas.Result.{IfOk-weaker}
+use Rattle.abc_value.specs.Tree.{Tree, list, trees}
+use Rattle.abc_value.specs.Sizes.{IsMakingOf}
+use Rattle.abc_value.specs.Regular.{IsOrdered}
+use Rattle.abc_value.specs.Changes.{in_order}
+use Rattle.abc_value.proofs.Merging.{in_order_ordered}
 use Rattle.abc_value.proofs.value.Value.list.Goals as goal
 
-pub loop-element-init : goal.loop-element-init
-loop-element-init c = none_collected c.args.elements.items c.new-all.result.items c.new-all.ensures.items
+pub ordered_list-requires : goal.ordered_list-requires
+ordered_list-requires c =
+    let P : List Tree → Type 0 = λ xs. IsOrdered (trees xs) in
+    subst P (sym (c.in_ok-from_vec.ensures ∙ c.in_ok-ordered.ensures.value)) (in_order_ordered c.args.elements.items)
 
-pub loop-element-preserved : goal.loop-element-preserved
-loop-element-preserved c =
-    one_collected c.args.elements.items c.loop-element.all.items c.pop.new.self.items c.loop-element.rest.items c.place_element.new.all.items c.in-Some.element
-    c.loop-element.invariant c.in-Some.ensures.items c.in_ok-place_element.ensures.ok c.place_element.ensures.regular
+pub returns-clause-value : goal.returns-clause-value
+returns-clause-value c =
+    let same = c.in_ok-from_vec.ensures ∙ c.in_ok-ordered.ensures.value in
+    IfOk-weaker c.ordered_list.result _ (λ v. v ≡ list (trees (in_order c.args.elements.items))) (λ v e. e ∙ ap (λ xs. list (trees xs)) same) c.ordered_list.ensures.value
+
+pub returns-clause-sizes : goal.returns-clause-sizes
+returns-clause-sizes c =
+    let same = c.in_ok-from_vec.ensures ∙ c.in_ok-ordered.ensures.value in
+    subst (λ xs. IsMakingOf (list (trees xs)) c.ordered_list.result) same c.ordered_list.ensures.sizes

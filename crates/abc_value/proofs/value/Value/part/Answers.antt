@@ -6,12 +6,12 @@ use Rattle.abc_value.proofs.value.Value.part.Goals as goal
 
 pub returns-in-Table : goal.returns-in-Table
 returns-in-Table c =
-    c.nth_associate.ensures ∙ nth_of_associates c.in-Table.entries.items c.args.i
+    c.nth_associate.ensures ∙ nth_of_associates c.in-Table.entries c.args.i
     ∙ ap (λ n. slice_get (parts_of (node_tree n)) c.args.i) (sym c.in-Table.is) ∙ ap (λ t. slice_get (parts_of t) c.args.i) c.self.view_is
 
 pub returns-in-Compound : goal.returns-in-Compound
 returns-in-Compound c =
-    c.nth.ensures ∙ ap (λ xs. slice_get xs c.args.i) (sym (listed_trees c.in-Compound.parts.items))
+    c.nth.ensures ∙ ap (λ xs. slice_get xs c.args.i) (sym (listed_trees c.in-Compound.parts))
     ∙ elim c.in-Compound.is [
       | inl h ↦ ap (λ n. slice_get (parts_of (node_tree n)) c.args.i) (sym h)
       | inr h ↦ ap (λ n. slice_get (parts_of (node_tree n)) c.args.i) (sym h)

@@ -1,4 +1,5 @@
-use Rattle.std.proofs.Common.{ap}
+use Rattle.std.proofs.Common.{sym, ap, subst, ◌∙◌}
+use Rattle.abc_value.specs.Regular.{AreCharacters}
 use Rattle.abc_value.specs.View.{node_tree}
 use Rattle.abc_value.proofs.Itemised.{text_characters}
 use Rattle.abc_value.proofs.Ranges.{whole_fits, passed}
@@ -12,8 +13,8 @@ range_of_numbers-requires-clause-last c = passed c.in-Some-Some.last (whole_fits
 
 pub range_of_characters-requires-clause-first : goal.range_of_characters-requires-clause-first
 range_of_characters-requires-clause-first c =
-    rw c.deref.ensures.value (text_characters c.in-Text-Text.p.items (node_tree c.p.inside.node) (ap node_tree c.in-Text-Text.is-0) c.p.invariant.2)
+    subst AreCharacters (sym (c.as_slice.ensures.value ∙ ap (λ v. v.items) c.deref.ensures)) (text_characters c.in-Text-Text.p.value.items (node_tree c.p.inside.node) (ap node_tree c.in-Text-Text.is-0) c.p.invariant.2)
 
 pub range_of_characters-requires-clause-last : goal.range_of_characters-requires-clause-last
 range_of_characters-requires-clause-last c =
-    rw c.deref-in-Text-Text.ensures.value (text_characters c.in-Text-Text.q.items (node_tree c.q.inside.node) (ap node_tree c.in-Text-Text.is-1) c.q.invariant.2)
+    subst AreCharacters (sym (c.as_slice-in-Text-Text.ensures.value ∙ ap (λ v. v.items) c.deref-in-Text-Text.ensures)) (text_characters c.in-Text-Text.q.value.items (node_tree c.q.inside.node) (ap node_tree c.in-Text-Text.is-1) c.q.invariant.2)

@@ -1,0 +1,12 @@
+//! Sequences in chunks, which equal sequences share.
+#![tactic(auto)]
+
+mod chunks;
+mod search;
+mod tower;
+
+pub use chunks::Chunks;
+pub use search::Seek;
+
+#[cfg(test)]
+mod tests;
