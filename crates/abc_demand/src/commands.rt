@@ -25,61 +25,21 @@ impl Draft {
             ActionNode::Fail => Ok(()),
             ActionNode::Refinement(_) => Ok(()),
             ActionNode::Select(_) => Ok(()),
-            ActionNode::Write { part, .. } => {
-                self.part(scope, part)?;
-                Ok(())
-            }
-            ActionNode::Put { value, address } => {
-                self.alike(scope, value, address)?;
-                Ok(())
-            }
-            ActionNode::Insert { value, address } => {
-                self.element(scope, value, address)?;
-                Ok(())
-            }
-            ActionNode::Remove { value, address } => {
-                self.element(scope, value, address)?;
-                Ok(())
-            }
-            ActionNode::Delete { address } => {
-                self.anything(scope, address)?;
-                Ok(())
-            }
-            ActionNode::ReadExample { address, example } => {
-                self.alike(scope, address, example)?;
-                Ok(())
-            }
-            ActionNode::ReadRaw { address } => {
-                self.line(scope, address)?;
-                Ok(())
-            }
-            ActionNode::Check(test) => {
-                self.test(scope, test)?;
-                Ok(())
-            }
-            ActionNode::Report(test) => {
-                self.test(scope, test)?;
-                Ok(())
-            }
-            ActionNode::If(test, _) => {
-                self.test(scope, test)?;
-                Ok(())
-            }
-            ActionNode::While(test, _) => {
-                self.test(scope, test)?;
-                Ok(())
-            }
-            ActionNode::For { names, train, .. } => {
-                self.for_each(scope, names, train)?;
-                Ok(())
-            }
-            ActionNode::Return(value) => {
-                self.given(scope, place, value)?;
-                Ok(())
-            }
+            ActionNode::Write { part, .. } => self.part(scope, part),
+            ActionNode::Put { value, address } => self.alike(scope, value, address),
+            ActionNode::Insert { value, address } => self.element(scope, value, address),
+            ActionNode::Remove { value, address } => self.element(scope, value, address),
+            ActionNode::Delete { address } => self.anything(scope, address),
+            ActionNode::ReadExample { address, example } => self.alike(scope, address, example),
+            ActionNode::ReadRaw { address } => self.line(scope, address),
+            ActionNode::Check(test) => self.test(scope, test),
+            ActionNode::Report(test) => self.test(scope, test),
+            ActionNode::If(test, _) => self.test(scope, test),
+            ActionNode::While(test, _) => self.test(scope, test),
+            ActionNode::For { names, train, .. } => self.for_each(scope, names, train),
+            ActionNode::Return(value) => self.given(scope, place, value),
             ActionNode::Call(template, actuals) => {
-                self.call(scope, template, actuals.as_slice())?;
-                Ok(())
+                self.call(scope, template, actuals.as_slice())
             }
         }
     }

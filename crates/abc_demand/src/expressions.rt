@@ -2,7 +2,7 @@
 ghost use Rattle.std.specs.Prelude.{◌≡◌, ◌<◌, ◌≤◌, ℕ, List, [], ◌∷◌, map, take, drop, true, false, IfOk, OnOk};
 ghost use Rattle.abc_tree.specs.Lists.{flat};
 ghost use Rattle.abc_tree.specs.Calls.{begins_with_place};
-ghost use Rattle.abc_ground.specs.Seen.{seen, seen_piece, seen_fill, seen_pair, seen_bound, any_ranged, leaf, name};
+ghost use Rattle.abc_ground.specs.Seen.{seen, seen_piece, seen_fill, seen_pair, seen_bound, any_ranged, leaf, node, nodes, name, characters, fields, elements, entries};
 ghost use Rattle.abc_demand.specs.Typings.{AreMade};
 ghost use Rattle.abc_demand.specs.inner.Leads.{Leads};
 ghost use Rattle.abc_demand.specs.inner.Walks.{scope_bound, call_scene, Walked, Found, Passed, CalledAt, front_count};
@@ -34,37 +34,15 @@ impl Draft {
                 let a = self.number()?;
                 Ok(a)
             }
-            Expr::Name(i) => {
-                let a = self.name(scope, *i)?;
-                Ok(a)
-            }
-            Expr::Text(pieces) => {
-                self.pieces(scope, pieces.as_slice())?;
-                let a = self.text()?;
-                Ok(a)
-            }
-            Expr::Compound(parts) => {
-                let mut vars = Vec::new(self.alloc);
-                self.expressions(scope, parts.as_slice(), 0, &mut vars)?;
-                let a = self.fields(&vars)?;
-                Ok(a)
-            }
+            Expr::Name(i) => self.name(scope, *i),
+            Expr::Text(pieces) => self.characters(scope, pieces.as_slice()),
+            Expr::Compound(parts) => self.compound(scope, parts.as_slice()),
             Expr::Empty => {
                 let a = self.nothing()?;
                 Ok(a)
             }
-            Expr::List(fills) => {
-                let mut vars = Vec::new(self.alloc);
-                self.fills(scope, fills.as_slice(), &mut vars)?;
-                let a = self.elements(&vars, has_range(fills.as_slice()))?;
-                Ok(a)
-            }
-            Expr::Table(pairs) => {
-                let mut vars = Vec::new(self.alloc);
-                self.pairs(scope, pairs.as_slice(), &mut vars)?;
-                let a = self.entries(&vars)?;
-                Ok(a)
-            }
+            Expr::List(fills) => self.list(scope, fills.as_slice()),
+            Expr::Table(pairs) => self.table(scope, pairs.as_slice()),
             Expr::Select(t, k) => {
                 let table = self.expression(scope, t.get())?;
                 let key = self.expression(scope, k.get())?;
@@ -154,17 +132,19 @@ impl Draft {
         Ok(1)
     }
 
-    /// The conversions of a text, which may have any types.
+    /// A text; what stands in its conversions may have any types.
     #[cycle(expression)]
-    fn pieces(&mut self, scope: &Scope, pieces: &[Piece]) -> Result<(), OutOfMemory>
+    fn characters(&mut self, scope: &Scope, pieces: &[Piece]) -> Result<VarId, OutOfMemory>
         requires { scope_bound scope.now ≤ self.old.count }
-        ensures found { OnOk result ((own : List ℕ) × Walked scope.now self.old self.new (flat (map seen_piece pieces.now)) own) }
-        ensures grows { OnOk result (self.old.count ≤ self.new.count) }
+        ensures walked { IfOk result (λ a. Walked scope.now self.old self.new (node characters (nodes (flat (map seen_piece pieces.now))) ∷ []) (a.0 ∷ [])) }
+        ensures there { IfOk result (λ a. a.0 < self.new.count) }
+        ensures grows { IfOk result (λ _. self.old.count ≤ self.new.count) }
     {
         for piece in pieces {
             self.piece(scope, piece)?;
         }
-        Ok(())
+        let a = self.text()?;
+        Ok(a)
     }
 
     #[cycle(expression)]
@@ -182,21 +162,34 @@ impl Draft {
         }
     }
 
+    /// A compound of these fields.
     #[cycle(expression)]
-    fn fills(
-        &mut self,
-        scope: &Scope,
-        fills: &[Fill],
-        vars: &mut Vec<VarId>,
-    ) -> Result<(), OutOfMemory>
+    fn compound(&mut self, scope: &Scope, parts: &[Expr]) -> Result<VarId, OutOfMemory>
         requires { scope_bound scope.now ≤ self.old.count }
-        ensures found { OnOk result (Found scope.now self.old self.new (flat (map (λ fill. (seen_fill fill).parts) fills.now)) vars.old.items vars.new.items) }
-        ensures grows { OnOk result (self.old.count ≤ self.new.count) }
+        ensures walked { IfOk result (λ a. Walked scope.now self.old self.new (node fields (nodes (map seen parts.now)) ∷ []) (a.0 ∷ [])) }
+        ensures there { IfOk result (λ a. a.0 < self.new.count) }
+        ensures grows { IfOk result (λ _. self.old.count ≤ self.new.count) }
     {
+        let mut vars = Vec::new(self.alloc);
+        self.expressions(scope, parts, 0, &mut vars)?;
+        let a = self.fields(&vars)?;
+        Ok(a)
+    }
+
+    /// A list display with these fillers.
+    #[cycle(expression)]
+    fn list(&mut self, scope: &Scope, fills: &[Fill]) -> Result<VarId, OutOfMemory>
+        requires { scope_bound scope.now ≤ self.old.count }
+        ensures walked { IfOk result (λ a. Walked scope.now self.old self.new (node (elements (any_ranged (map seen_fill fills.now))) (nodes (flat (map (λ fill. (seen_fill fill).parts) fills.now))) ∷ []) (a.0 ∷ [])) }
+        ensures there { IfOk result (λ a. a.0 < self.new.count) }
+        ensures grows { IfOk result (λ _. self.old.count ≤ self.new.count) }
+    {
+        let mut vars = Vec::new(self.alloc);
         for fill in fills {
-            self.fill(scope, fill, vars)?;
+            self.fill(scope, fill, &mut vars)?;
         }
-        Ok(())
+        let a = self.elements(&vars, has_range(fills))?;
+        Ok(a)
     }
 
     #[cycle(expression)]
@@ -221,21 +214,20 @@ impl Draft {
         }
     }
 
+    /// A table display with these pairs.
     #[cycle(expression)]
-    fn pairs(
-        &mut self,
-        scope: &Scope,
-        pairs: &[Pair],
-        vars: &mut Vec<VarId>,
-    ) -> Result<(), OutOfMemory>
+    fn table(&mut self, scope: &Scope, pairs: &[Pair]) -> Result<VarId, OutOfMemory>
         requires { scope_bound scope.now ≤ self.old.count }
-        ensures found { OnOk result (Found scope.now self.old self.new (flat (map seen_pair pairs.now)) vars.old.items vars.new.items) }
-        ensures grows { OnOk result (self.old.count ≤ self.new.count) }
+        ensures walked { IfOk result (λ a. Walked scope.now self.old self.new (node entries (nodes (flat (map seen_pair pairs.now))) ∷ []) (a.0 ∷ [])) }
+        ensures there { IfOk result (λ a. a.0 < self.new.count) }
+        ensures grows { IfOk result (λ _. self.old.count ≤ self.new.count) }
     {
+        let mut vars = Vec::new(self.alloc);
         for pair in pairs {
-            self.pair(scope, pair, vars)?;
+            self.pair(scope, pair, &mut vars)?;
         }
-        Ok(())
+        let a = self.entries(&vars)?;
+        Ok(a)
     }
 
     #[cycle(expression)]

@@ -1,4 +1,4 @@
-use Rattle.std.proofs.Common.{◌≡◌, ◌∙◌, ◌++◌, ◌+◌, ℕ, [], ◌∷◌, List, true, map, take, drop, ap, sym, subst, refl, arith}
+use Rattle.std.proofs.Common.{◌≡◌, ◌∙◌, ◌++◌, ◌+◌, ℕ, [], ◌∷◌, List, true, map, take, drop, ap, sym, subst, refl, arith, IfOk}
 use Rattle.abc_terms.specs.declared.term.Term.TheVariants as term
 use Rattle.abc_tree.specs.Lists.{flat}
 use Rattle.abc_tree.specs.declared.formulas.Fill.{Fill}
@@ -9,7 +9,7 @@ use Rattle.abc_demand.specs.inner.Leads.{Leads}
 use Rattle.abc_demand.proofs.Asking.{asked_none, asked_term}
 use Rattle.abc_demand.proofs.Noded.{numeral_walked, characters_walked, fields_walked, nothing_walked, elements_walked, entries_walked, selection_walked, row_walked, rows_walked}
 use Rattle.abc_demand.proofs.Seeing.{first_seen, seen_number, seen_name, seen_empty, seen_select, seen_compound, seen_text, seen_table, seen_apply, seen_apply_two, seen_call, seen_chars, seen_conversion, seen_list, fill_one, fill_range, pair_parts, call_actuals}
-use Rattle.abc_demand.proofs.Turning.{turning_first, turning_next, turning_last, passing_first, passing_next, passing_last, rest_at, rest_of, rest_none, rest_nothing}
+use Rattle.abc_demand.proofs.Turning.{Turning, turning_first, turning_next, turning_last, passing_first, passing_next, passing_last, rest_at, rest_of, rest_none, rest_nothing}
 use Rattle.abc_demand.proofs.Walking.{walked_none, walked_call, found_none, found_one, found_two, found_all, passed_call}
 use Rattle.abc_demand.proofs.draft.Draft.+expression.Goals as goal
 
@@ -22,33 +22,20 @@ expression-returns-in_ok-a-in-Number-clause-walked t c =
     (numeral_walked c.args.scope.now c.args.self.now c.number.new.self a c.requires c.in_ok-a-in-Number.ensures.number
     (asked_term c.args.self.now c.args.self.now c.number.new.self 0 [] (asked_none c.args.self.now) a term.Number c.in_ok-a-in-Number.ensures.number c.in_ok-a-in-Number.ensures.ok))
 
-pub expression-returns-in_ok-a-in-Name-clause-walked : goal.expression-returns-in_ok-a-in-Name-clause-walked
-expression-returns-in_ok-a-in-Name-clause-walked t c =
-    let a = c.in_ok-a-in-Name.a in
+pub expression-returns-in-Name-clause-walked : goal.expression-returns-in-Name-clause-walked
+expression-returns-in-Name-clause-walked t c =
     let is : seen c.args.e.now ≡ leaf (name c.in-Name.i.0) = ap seen c.in-Name.is ∙ seen_name c.in-Name.i in
-    subst (λ x. Walked c.args.scope.now c.args.self.now c.name.new.self (x ∷ []) (a.0 ∷ [])) (sym is) c.in_ok-a-in-Name.ensures.walked
+    subst (λ x. IfOk c.name.result (λ a. Walked c.args.scope.now c.args.self.now c.name.new.self (x ∷ []) (a.0 ∷ []))) (sym is) c.name.ensures.walked
 
-pub expression-returns-in_ok-a-in-Text-clause-walked : goal.expression-returns-in_ok-a-in-Text-clause-walked
-expression-returns-in_ok-a-in-Text-clause-walked t c =
-    let a = c.in_ok-a-in-Text.a in
-    let mid = c.pieces.new.self in
-    let ps = c.as_slice.result.now in
-    let is : seen c.args.e.now ≡ node characters (nodes (flat (map seen_piece ps))) = ap seen c.in-Text.is ∙ (seen_text c.in-Text.pieces ∙ ap (λ qs. node characters (nodes (flat (map seen_piece qs)))) (sym c.as_slice.ensures)) in
-    let walked : (own : List ℕ) × Walked c.args.scope.now c.args.self.now mid (flat (map seen_piece ps)) own = c.in_ok-pieces-in-Text.ensures.found in
-    subst (λ x. Walked c.args.scope.now c.args.self.now c.text.new.self (x ∷ []) (a.0 ∷ [])) (sym is)
-    (characters_walked c.args.scope.now c.args.self.now mid c.text.new.self (flat (map seen_piece ps)) walked.0 a c.requires walked.1 c.in_ok-a-in-Text.ensures.number
-    (asked_term mid mid c.text.new.self 0 [] (asked_none mid) a term.Text c.in_ok-a-in-Text.ensures.number c.in_ok-a-in-Text.ensures.ok))
+pub expression-returns-in-Text-clause-walked : goal.expression-returns-in-Text-clause-walked
+expression-returns-in-Text-clause-walked t c =
+    let is : seen c.args.e.now ≡ node characters (nodes (flat (map seen_piece c.as_slice.result.now))) = ap seen c.in-Text.is ∙ (seen_text c.in-Text.pieces ∙ ap (λ qs. node characters (nodes (flat (map seen_piece qs)))) (sym c.as_slice.ensures)) in
+    subst (λ x. IfOk c.characters.result (λ a. Walked c.args.scope.now c.args.self.now c.characters.new.self (x ∷ []) (a.0 ∷ []))) (sym is) c.characters.ensures.walked
 
-pub expression-returns-in_ok-a-in-Compound-clause-walked : goal.expression-returns-in_ok-a-in-Compound-clause-walked
-expression-returns-in_ok-a-in-Compound-clause-walked t c =
-    let a = c.in_ok-a-in-Compound.a in
-    let mid = c.expressions.new.self in
-    let vars = c.expressions.new.vars.items in
-    let ps = c.as_slice-in-Compound.result.now in
-    let is : seen c.args.e.now ≡ node fields (nodes (map seen ps)) = ap seen c.in-Compound.is ∙ (seen_compound c.in-Compound.parts ∙ ap (λ qs. node fields (nodes (map seen qs))) (sym c.as_slice-in-Compound.ensures)) in
-    let all = found_all c.args.scope.now c.args.self.now mid (map seen ps) c.new-vars.result.items vars c.new-vars.ensures.items c.in_ok-expressions-in-Compound.ensures.found in
-    subst (λ x. Walked c.args.scope.now c.args.self.now c.fields.new.self (x ∷ []) (a.0 ∷ [])) (sym is)
-    (fields_walked c.args.scope.now c.args.self.now mid c.fields.new.self (map seen ps) vars a c.requires all.0 all.1 c.in_ok-a-in-Compound.ensures.number (subst (λ vs. IsFields mid c.fields.new.self vs a) c.deref.ensures.value c.in_ok-a-in-Compound.ensures.asked))
+pub expression-returns-in-Compound-clause-walked : goal.expression-returns-in-Compound-clause-walked
+expression-returns-in-Compound-clause-walked t c =
+    let is : seen c.args.e.now ≡ node fields (nodes (map seen c.as_slice-in-Compound.result.now)) = ap seen c.in-Compound.is ∙ (seen_compound c.in-Compound.parts ∙ ap (λ qs. node fields (nodes (map seen qs))) (sym c.as_slice-in-Compound.ensures)) in
+    subst (λ x. IfOk c.compound.result (λ a. Walked c.args.scope.now c.args.self.now c.compound.new.self (x ∷ []) (a.0 ∷ []))) (sym is) c.compound.ensures.walked
 
 pub expression-returns-in_ok-a-in-Empty-clause-walked : goal.expression-returns-in_ok-a-in-Empty-clause-walked
 expression-returns-in_ok-a-in-Empty-clause-walked t c =
@@ -57,32 +44,17 @@ expression-returns-in_ok-a-in-Empty-clause-walked t c =
     subst (λ x. Walked c.args.scope.now c.args.self.now c.nothing.new.self (x ∷ []) (a.0 ∷ [])) (sym is)
     (nothing_walked c.args.scope.now c.args.self.now c.nothing.new.self a c.requires c.in_ok-a-in-Empty.ensures.number c.in_ok-a-in-Empty.ensures.asked)
 
-pub expression-returns-in_ok-a-in-List-clause-walked : goal.expression-returns-in_ok-a-in-List-clause-walked
-expression-returns-in_ok-a-in-List-clause-walked t c =
-    let a = c.in_ok-a-in-List.a in
-    let mid = c.fills.new.self in
-    let vars = c.fills.new.vars.items in
-    let fs = c.as_slice-in-List.result.now in
+pub expression-returns-in-List-clause-walked : goal.expression-returns-in-List-clause-walked
+expression-returns-in-List-clause-walked t c =
     let f : Fill → List Node = λ fill. (seen_fill fill).parts in
-    let ranged = c.has_range.result in
-    let other : c.as_slice-in-List-2.result.now ≡ fs = c.as_slice-in-List-2.ensures ∙ sym c.as_slice-in-List.ensures in
-    let range : ranged ≡ any_ranged (map seen_fill fs) = c.has_range.ensures ∙ ap (λ gs. any_ranged (map seen_fill gs)) other in
-    let is : seen c.args.e.now ≡ node (elements ranged) (nodes (flat (map f fs))) =
-    ap seen c.in-List.is ∙ (seen_list c.in-List.fills ∙ (ap (λ gs. node (elements (any_ranged (map seen_fill gs))) (nodes (flat (map f gs)))) (sym c.as_slice-in-List.ensures) ∙ ap (λ r. node (elements r) (nodes (flat (map f fs)))) (sym range))) in
-    let all = found_all c.args.scope.now c.args.self.now mid (flat (map f fs)) c.new-vars-in-List.result.items vars c.new-vars-in-List.ensures.items c.in_ok-fills-in-List.ensures.found in
-    subst (λ x. Walked c.args.scope.now c.args.self.now c.elements.new.self (x ∷ []) (a.0 ∷ [])) (sym is)
-    (elements_walked c.args.scope.now c.args.self.now mid c.elements.new.self (flat (map f fs)) vars ranged a c.requires all.0 all.1 (subst (λ vs. IsElements mid c.elements.new.self vs ranged a) c.deref-in-List.ensures.value c.in_ok-a-in-List.ensures))
+    let shape : List Fill → Node = λ gs. node (elements (any_ranged (map seen_fill gs))) (nodes (flat (map f gs))) in
+    let is : seen c.args.e.now ≡ shape c.as_slice-in-List.result.now = ap seen c.in-List.is ∙ (seen_list c.in-List.fills ∙ ap shape (sym c.as_slice-in-List.ensures)) in
+    subst (λ x. IfOk c.list.result (λ a. Walked c.args.scope.now c.args.self.now c.list.new.self (x ∷ []) (a.0 ∷ []))) (sym is) c.list.ensures.walked
 
-pub expression-returns-in_ok-a-in-Table-clause-walked : goal.expression-returns-in_ok-a-in-Table-clause-walked
-expression-returns-in_ok-a-in-Table-clause-walked t c =
-    let a = c.in_ok-a-in-Table.a in
-    let mid = c.pairs.new.self in
-    let vars = c.pairs.new.vars.items in
-    let ps = c.as_slice-in-Table.result.now in
-    let is : seen c.args.e.now ≡ node entries (nodes (flat (map seen_pair ps))) = ap seen c.in-Table.is ∙ (seen_table c.in-Table.pairs ∙ ap (λ qs. node entries (nodes (flat (map seen_pair qs)))) (sym c.as_slice-in-Table.ensures)) in
-    let all = found_all c.args.scope.now c.args.self.now mid (flat (map seen_pair ps)) c.new-vars-in-Table.result.items vars c.new-vars-in-Table.ensures.items c.in_ok-pairs-in-Table.ensures.found in
-    subst (λ x. Walked c.args.scope.now c.args.self.now c.entries.new.self (x ∷ []) (a.0 ∷ [])) (sym is)
-    (entries_walked c.args.scope.now c.args.self.now mid c.entries.new.self (flat (map seen_pair ps)) vars a c.requires all.0 all.1 (subst (λ vs. IsEntries mid c.entries.new.self vs a) c.deref-in-Table.ensures.value c.in_ok-a-in-Table.ensures))
+pub expression-returns-in-Table-clause-walked : goal.expression-returns-in-Table-clause-walked
+expression-returns-in-Table-clause-walked t c =
+    let is : seen c.args.e.now ≡ node entries (nodes (flat (map seen_pair c.as_slice-in-Table.result.now))) = ap seen c.in-Table.is ∙ (seen_table c.in-Table.pairs ∙ ap (λ qs. node entries (nodes (flat (map seen_pair qs)))) (sym c.as_slice-in-Table.ensures)) in
+    subst (λ x. IfOk c.table.result (λ a. Walked c.args.scope.now c.args.self.now c.table.new.self (x ∷ []) (a.0 ∷ []))) (sym is) c.table.ensures.walked
 
 pub expression-returns-in_ok-a-in-Select-clause-walked : goal.expression-returns-in_ok-a-in-Select-clause-walked
 expression-returns-in_ok-a-in-Select-clause-walked t c =
@@ -131,7 +103,7 @@ expression-returns-in_ok-a-in-Call-clause-walked t c =
     let is : seen c.args.e.now ≡ call_of true t2 (map seen es) = ap seen c.in-Call.is ∙ (seen_call t2 c.in-Call.actuals ∙ ap (λ ds. call_of true t2 (map seen ds)) (sym c.as_slice-in-Call.ensures)) in
     subst (λ z. Walked c.args.scope.now c.args.self.now c.called_value.new.self (z ∷ []) (a.0 ∷ [])) (sym is)
     (walked_call c.args.scope.now c.args.self.now mid c.called_value.new.self true t2 (map seen es) called.at called.vars.items (a.0 ∷ []) c.requires c.in_ok-called-in-Call.ensures.found
-    (subst (λ vs. Leads (call_scene c.args.scope.now vs) mid c.called_value.new.self (λ z ts. CalledAt called.at true z ts) (a.0 ∷ [])) c.deref-in-Call.ensures.value c.in_ok-a-in-Call.ensures.leads) c.in_ok-a-in-Call.ensures.calls)
+    (subst (λ vs. Leads (call_scene c.args.scope.now vs) mid c.called_value.new.self (λ z ts. CalledAt called.at true z ts) (a.0 ∷ [])) c.deref.ensures.value c.in_ok-a-in-Call.ensures.leads) c.in_ok-a-in-Call.ensures.calls)
 
 pub expressions-loop-i-init : goal.expressions-loop-i-init
 expressions-loop-i-init t c = turning_first c.args.scope.now c.args.self.now (map seen (drop c.args.from c.args.es.now)) (map seen (drop c.args.from c.args.es.now)) c.args.vars.now.items refl c.requires
@@ -174,11 +146,11 @@ front-returns-clause-found t c =
     subst (λ xs. Found c.args.scope.now c.args.self.now c.expression.new.self xs c.args.vars.now.items c.push.new.self.items) (sym first)
     (found_one s c.args.self.now c.expression.new.self (seen x) c.in_ok-a.a c.args.vars.now.items c.push.new.self.items c.in_ok-a.ensures.walked c.in_ok-push.ensures.items c.in_ok-a.ensures.there)
 
-pub pieces-loop-piece-init : goal.pieces-loop-piece-init
-pieces-loop-piece-init t c = ([], passing_first c.args.scope.now c.args.self.now (flat (map seen_piece c.args.pieces.now)) (flat (map seen_piece c.args.pieces.now)) refl c.requires)
+pub characters-loop-piece-init : goal.characters-loop-piece-init
+characters-loop-piece-init t c = ([], passing_first c.args.scope.now c.args.self.now (flat (map seen_piece c.args.pieces.now)) (flat (map seen_piece c.args.pieces.now)) refl c.requires)
 
-pub pieces-loop-piece-preserved : goal.pieces-loop-piece-preserved
-pieces-loop-piece-preserved t c =
+pub characters-loop-piece-preserved : goal.characters-loop-piece-preserved
+characters-loop-piece-preserved t c =
     let ps = c.args.pieces.now in
     let i = c.loop-piece.piece-index in
     let x = c.piece-item.result in
@@ -186,10 +158,16 @@ pieces-loop-piece-preserved t c =
     let walked : (own : List ℕ) × Walked c.args.scope.now c.loop-piece.self c.piece.new.self (seen_piece x) own = c.in_ok-piece.ensures.found in
     (before.0 ++ walked.0, passing_next c.args.scope.now c.args.self.now c.loop-piece.self c.piece.new.self (flat (map seen_piece ps)) (flat (map seen_piece (drop i ps))) (flat (map seen_piece (drop (i + 1) ps))) (seen_piece x) before.0 walked.0 before.1 (rest_of seen_piece ps i x c.loop-piece-test.true c.piece-item.is) walked.1)
 
-pub pieces-returns-clause-found : goal.pieces-returns-clause-found
-pieces-returns-clause-found t c =
+pub characters-returns-clause-walked : goal.characters-returns-clause-walked
+characters-returns-clause-walked t c =
+    let a = c.in_ok-a.a in
+    let mid = c.loop-piece.self in
+    let ps = c.args.pieces.now in
     let all = c.loop-piece.invariant in
-    (all.0, passing_last c.args.scope.now c.args.self.now c.loop-piece.self (flat (map seen_piece c.args.pieces.now)) (flat (map seen_piece (drop c.loop-piece.piece-index c.args.pieces.now))) all.0 all.1 (rest_nothing seen_piece c.args.pieces.now c.loop-piece.piece-index c.loop-piece-test.false))
+    let walked : Walked c.args.scope.now c.args.self.now mid (flat (map seen_piece ps)) all.0 =
+    passing_last c.args.scope.now c.args.self.now mid (flat (map seen_piece ps)) (flat (map seen_piece (drop c.loop-piece.piece-index ps))) all.0 all.1 (rest_nothing seen_piece ps c.loop-piece.piece-index c.loop-piece-test.false) in
+    characters_walked c.args.scope.now c.args.self.now mid c.text.new.self (flat (map seen_piece ps)) all.0 a c.requires walked c.in_ok-a.ensures.number
+    (asked_term mid mid c.text.new.self 0 [] (asked_none mid) a term.Text c.in_ok-a.ensures.number c.in_ok-a.ensures.ok)
 
 pub piece-returns-in-Chars-clause-found : goal.piece-returns-in-Chars-clause-found
 piece-returns-in-Chars-clause-found t c =
@@ -202,25 +180,42 @@ piece-returns-in_ok-expression-in-Conversion-clause-found t c =
     let is : seen_piece c.args.piece.now ≡ seen e ∷ [] = ap seen_piece c.in-Conversion.is ∙ seen_conversion e in
     (c.in_ok-expression-in-Conversion.field-0.0 ∷ [], subst (λ xs. Walked c.args.scope.now c.args.self.now c.expression.new.self xs (c.in_ok-expression-in-Conversion.field-0.0 ∷ [])) (sym is) c.in_ok-expression-in-Conversion.ensures.walked)
 
-pub fills-loop-fill-init : goal.fills-loop-fill-init
-fills-loop-fill-init t c =
-    let f : Fill → List Node = λ fill. (seen_fill fill).parts in
-    turning_first c.args.scope.now c.args.self.now (flat (map f c.args.fills.now)) (flat (map f c.args.fills.now)) c.args.vars.now.items refl c.requires
+pub compound-returns-clause-walked : goal.compound-returns-clause-walked
+compound-returns-clause-walked t c =
+    let a = c.in_ok-a.a in
+    let mid = c.expressions.new.self in
+    let vars = c.expressions.new.vars.items in
+    let ps = c.args.parts.now in
+    let all = found_all c.args.scope.now c.args.self.now mid (map seen ps) c.new-vars.result.items vars c.new-vars.ensures.items c.in_ok-expressions.ensures.found in
+    fields_walked c.args.scope.now c.args.self.now mid c.fields.new.self (map seen ps) vars a c.requires all.0 all.1 c.in_ok-a.ensures.number (subst (λ vs. IsFields mid c.fields.new.self vs a) c.deref.ensures.value c.in_ok-a.ensures.asked)
 
-pub fills-loop-fill-preserved : goal.fills-loop-fill-preserved
-fills-loop-fill-preserved t c =
+pub list-loop-fill-init : goal.list-loop-fill-init
+list-loop-fill-init t c =
+    let f : Fill → List Node = λ fill. (seen_fill fill).parts in
+    let all = flat (map f c.args.fills.now) in
+    subst (λ vs. Turning c.args.scope.now c.args.self.now c.args.self.now all all [] vs) (sym c.new-vars.ensures.items) (turning_first c.args.scope.now c.args.self.now all all [] refl c.requires)
+
+pub list-loop-fill-preserved : goal.list-loop-fill-preserved
+list-loop-fill-preserved t c =
     let f : Fill → List Node = λ fill. (seen_fill fill).parts in
     let fs = c.args.fills.now in
     let i = c.loop-fill.fill-index in
     let x = c.fill-item.result in
-    turning_next c.args.scope.now c.args.self.now c.loop-fill.self c.fill.new.self (flat (map f fs)) (flat (map f (drop i fs))) (flat (map f (drop (i + 1) fs))) (f x) c.args.vars.now.items c.loop-fill.vars.items c.fill.new.vars.items
+    turning_next c.args.scope.now c.args.self.now c.loop-fill.self c.fill.new.self (flat (map f fs)) (flat (map f (drop i fs))) (flat (map f (drop (i + 1) fs))) (f x) [] c.loop-fill.vars.items c.fill.new.vars.items
     c.loop-fill.invariant (rest_of f fs i x c.loop-fill-test.true c.fill-item.is) c.in_ok-fill.ensures.found
 
-pub fills-returns-clause-found : goal.fills-returns-clause-found
-fills-returns-clause-found t c =
+pub list-returns-clause-walked : goal.list-returns-clause-walked
+list-returns-clause-walked t c =
+    let a = c.in_ok-a.a in
+    let mid = c.loop-fill.self in
+    let vars = c.loop-fill.vars.items in
+    let fs = c.args.fills.now in
     let f : Fill → List Node = λ fill. (seen_fill fill).parts in
-    turning_last c.args.scope.now c.args.self.now c.loop-fill.self (flat (map f c.args.fills.now)) (flat (map f (drop c.loop-fill.fill-index c.args.fills.now))) c.args.vars.now.items c.loop-fill.vars.items c.loop-fill.invariant
-    (rest_nothing f c.args.fills.now c.loop-fill.fill-index c.loop-fill-test.false)
+    let ranged = c.has_range.result in
+    let found = turning_last c.args.scope.now c.args.self.now mid (flat (map f fs)) (flat (map f (drop c.loop-fill.fill-index fs))) [] vars c.loop-fill.invariant (rest_nothing f fs c.loop-fill.fill-index c.loop-fill-test.false) in
+    let all = found_all c.args.scope.now c.args.self.now mid (flat (map f fs)) [] vars refl found in
+    subst (λ r. Walked c.args.scope.now c.args.self.now c.elements.new.self (node (elements r) (nodes (flat (map f fs))) ∷ []) (a.0 ∷ [])) c.has_range.ensures
+    (elements_walked c.args.scope.now c.args.self.now mid c.elements.new.self (flat (map f fs)) vars ranged a c.requires all.0 all.1 (subst (λ vs. IsElements mid c.elements.new.self vs ranged a) c.deref.ensures.value c.in_ok-a.ensures))
 
 pub fill-returns-in_ok-push-in-One-clause-found : goal.fill-returns-in_ok-push-in-One-clause-found
 fill-returns-in_ok-push-in-One-clause-found t c =
@@ -243,21 +238,28 @@ fill-returns-in_ok-push-in-Range-2-clause-found t c =
     (found_two c.args.scope.now c.args.self.now mid next (seen x) (seen y) a b c.args.vars.now.items c.push-in-Range.new.self.items c.push-in-Range-2.new.self.items c.requires
     c.in_ok-a-in-Range.ensures.walked c.in_ok-a-in-Range.ensures.there c.in_ok-b-in-Range.ensures.walked c.in_ok-b-in-Range.ensures.there c.in_ok-push-in-Range.ensures.items c.in_ok-push-in-Range-2.ensures.items)
 
-pub pairs-loop-pair-init : goal.pairs-loop-pair-init
-pairs-loop-pair-init t c = turning_first c.args.scope.now c.args.self.now (flat (map seen_pair c.args.pairs.now)) (flat (map seen_pair c.args.pairs.now)) c.args.vars.now.items refl c.requires
+pub table-loop-pair-init : goal.table-loop-pair-init
+table-loop-pair-init t c =
+    let all = flat (map seen_pair c.args.pairs.now) in
+    subst (λ vs. Turning c.args.scope.now c.args.self.now c.args.self.now all all [] vs) (sym c.new-vars.ensures.items) (turning_first c.args.scope.now c.args.self.now all all [] refl c.requires)
 
-pub pairs-loop-pair-preserved : goal.pairs-loop-pair-preserved
-pairs-loop-pair-preserved t c =
+pub table-loop-pair-preserved : goal.table-loop-pair-preserved
+table-loop-pair-preserved t c =
     let ps = c.args.pairs.now in
     let i = c.loop-pair.pair-index in
     let x = c.pair-item.result in
-    turning_next c.args.scope.now c.args.self.now c.loop-pair.self c.pair.new.self (flat (map seen_pair ps)) (flat (map seen_pair (drop i ps))) (flat (map seen_pair (drop (i + 1) ps))) (seen_pair x) c.args.vars.now.items c.loop-pair.vars.items c.pair.new.vars.items
+    turning_next c.args.scope.now c.args.self.now c.loop-pair.self c.pair.new.self (flat (map seen_pair ps)) (flat (map seen_pair (drop i ps))) (flat (map seen_pair (drop (i + 1) ps))) (seen_pair x) [] c.loop-pair.vars.items c.pair.new.vars.items
     c.loop-pair.invariant (rest_of seen_pair ps i x c.loop-pair-test.true c.pair-item.is) c.in_ok-pair.ensures.found
 
-pub pairs-returns-clause-found : goal.pairs-returns-clause-found
-pairs-returns-clause-found t c =
-    turning_last c.args.scope.now c.args.self.now c.loop-pair.self (flat (map seen_pair c.args.pairs.now)) (flat (map seen_pair (drop c.loop-pair.pair-index c.args.pairs.now))) c.args.vars.now.items c.loop-pair.vars.items c.loop-pair.invariant
-    (rest_nothing seen_pair c.args.pairs.now c.loop-pair.pair-index c.loop-pair-test.false)
+pub table-returns-clause-walked : goal.table-returns-clause-walked
+table-returns-clause-walked t c =
+    let a = c.in_ok-a.a in
+    let mid = c.loop-pair.self in
+    let vars = c.loop-pair.vars.items in
+    let ps = c.args.pairs.now in
+    let found = turning_last c.args.scope.now c.args.self.now mid (flat (map seen_pair ps)) (flat (map seen_pair (drop c.loop-pair.pair-index ps))) [] vars c.loop-pair.invariant (rest_nothing seen_pair ps c.loop-pair.pair-index c.loop-pair-test.false) in
+    let all = found_all c.args.scope.now c.args.self.now mid (flat (map seen_pair ps)) [] vars refl found in
+    entries_walked c.args.scope.now c.args.self.now mid c.entries.new.self (flat (map seen_pair ps)) vars a c.requires all.0 all.1 (subst (λ vs. IsEntries mid c.entries.new.self vs a) c.deref.ensures.value c.in_ok-a.ensures)
 
 pub pair-returns-clause-found : goal.pair-returns-clause-found
 pair-returns-clause-found t c =
