@@ -3,17 +3,11 @@
 #![tactic(auto)]
 
 use abc_outside::RealHost;
-use abc_session::run;
+use abc_session::{MEMORY, USAGE, run};
 use std::alloc::AllocError;
 use std::env;
 use std::io::ErrorKind;
 use std::process::ExitCode;
-
-/// The words do not read.
-const USAGE: u8 = 2;
-
-/// There was not enough memory.
-const MEMORY: u8 = 7;
 
 /// The words without the program's name. One that is not UTF-8 makes all of them unreadable.
 fn words_of(rt: &HostRuntime) -> Result<Vec<String>, u8> {

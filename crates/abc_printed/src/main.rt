@@ -1,4 +1,4 @@
-//! Reads a literal a line, and prints its display and how it is written, a line each, or that the line spells none.
+//! Reads lines. Of each that is a literal it prints two lines, the display and what WRITE prints; of any other it tells that it is none.
 #![tactic(auto)]
 
 use abc_num::limits::MOST_LINE_BYTES;

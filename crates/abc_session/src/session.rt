@@ -33,7 +33,7 @@ pub(crate) enum SessionStop {
     Memory,
 }
 
-/// Why a session ends whose reader stops so.
+/// The session's end for this end of its reader.
 fn stop_of_line(stop: LineStop) -> SessionStop
     ensures input { result ≡ SessionStop.Input → stop ≡ LineStop.Input }
     ensures long { result ≡ SessionStop.Long → stop ≡ LineStop.Long }
