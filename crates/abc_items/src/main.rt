@@ -1,8 +1,8 @@
 //! Reads the names of targets in a line, a space between, and then the lines of an input. Prints a line for each item of the input:
-//! the outline of its tree, or the line and the kind of its fault.
+//! its tree, or the line and the kind of its fault.
 #![tactic(auto)]
 
-mod outline;
+mod show;
 
 ghost use Rattle.std.specs.Prelude.{◌≡◌, ◌<◌, ◌≤◌, true, length, All};
 ghost use Rattle.abc_outline.specs.Rows.{IsShort};
@@ -11,8 +11,9 @@ use abc_layout::{Fed, Splitter};
 use abc_num::limits::MOST_LINE_BYTES;
 use abc_num::{ItemLines, Line, Names, OutOfMemory, Text};
 use abc_parse::{ItemFault, parse_item};
+use abc_show::Sheet;
 use abc_tree::Item;
-use outline::print_item;
+use show::show_item;
 use std::io;
 use thiserror::Error;
 
@@ -44,7 +45,15 @@ fn are_short(lines: &[Line]) -> bool
         .all(|line| line.text.bytes().len() <= MOST_LINE_BYTES)
 }
 
-/// Prints the outline of an item, or its fault.
+/// Prints an item in one line.
+fn print_item(rt: &HostRuntime, item: &Item) -> Result<(), Fault> {
+    let mut sheet = Sheet::new(rt.alloc());
+    show_item(&mut sheet, item)?;
+    let text = str::from_utf8(sheet.bytes()).map_err(|_| Fault::Text)?;
+    Ok(println!(rt; "{text}")?)
+}
+
+/// Prints an item, or its fault.
 fn print_found(rt: &HostRuntime, found: Result<Item, ItemFault>) -> Result<(), Fault> {
     match found {
         Ok(tree) => print_item(rt, &tree),

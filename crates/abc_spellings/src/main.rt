@@ -4,7 +4,6 @@
 #![tactic(auto)]
 
 mod readings;
-mod show;
 
 ghost use Rattle.std.specs.Prelude.{◌≤◌, length};
 ghost use Rattle.abc_tokens.specs.Tokens.{AreTokens};
@@ -13,10 +12,10 @@ use abc_expressions::lexemes_of;
 use abc_formula::{FormulaFault, address, address_names, expression, test};
 use abc_num::limits::MOST_LINE_BYTES;
 use abc_num::{Names, OutOfMemory, Text};
+use abc_show::{Sheet, show_expression, show_test};
 use abc_tokens::{Token, TokenFault, tokens};
 use abc_tree::{Expr, Test};
 use readings::print_readings;
-use show::{print_address_names, print_expression, print_test};
 use std::io;
 use thiserror::Error;
 
@@ -56,6 +55,31 @@ pub(crate) fn refuse(rt: &HostRuntime, fault: FormulaFault) -> Result<(), Fault>
     Ok(())
 }
 
+/// Prints what stands on a sheet.
+pub(crate) fn print_sheet(rt: &HostRuntime, sheet: &Sheet) -> Result<(), Fault> {
+    let text = str::from_utf8(sheet.bytes()).map_err(|_| Fault::Text)?;
+    Ok(print!(rt; "{text}")?)
+}
+
+/// Prints the names, a space before each.
+pub(crate) fn print_names(rt: &HostRuntime, names: &Names) -> Result<(), Fault> {
+    let mut sheet = Sheet::new(rt.alloc());
+    sheet.names(names)?;
+    print_sheet(rt, &sheet)
+}
+
+fn print_expression(rt: &HostRuntime, tree: &Expr) -> Result<(), Fault> {
+    let mut sheet = Sheet::new(rt.alloc());
+    show_expression(&mut sheet, tree)?;
+    print_sheet(rt, &sheet)
+}
+
+fn print_test(rt: &HostRuntime, tree: &Test) -> Result<(), Fault> {
+    let mut sheet = Sheet::new(rt.alloc());
+    show_test(&mut sheet, tree)?;
+    print_sheet(rt, &sheet)
+}
+
 fn print_tree(rt: &HostRuntime, found: Result<Expr, FormulaFault>) -> Result<(), Fault> {
     match found {
         Ok(tree) => print_expression(rt, &tree),
@@ -80,7 +104,7 @@ fn answer_tokens(rt: &HostRuntime, own: &Names, line: &[u8], toks: &[Token]) -> 
     print!(rt; " | ")?;
     print_tree(rt, address(alloc, toks, line, own))?;
     print!(rt; " |")?;
-    print_address_names(rt, &address_names(alloc, toks, line)?)?;
+    print_names(rt, &address_names(alloc, toks, line)?)?;
     print!(rt; " | ")?;
     print_found_test(rt, test(alloc, toks, line, own))?;
     println!(rt; "")?;

@@ -2,8 +2,7 @@
 ghost use Rattle.std.specs.Prelude.{All};
 ghost use Rattle.abc_expressions.specs.Lexemes.{IsSpelled};
 
-use crate::show::{print_address_names, print_bound};
-use crate::{Fault, refuse};
+use crate::{Fault, print_names, print_sheet, refuse};
 use abc_expressions::{
     Lexeme, is_higher, single_expression, used_names, whole_address, whole_expression,
 };
@@ -12,7 +11,8 @@ use abc_formula::{
 };
 use abc_num::Names;
 use abc_num::limits::MOST_LINE_BYTES;
-use abc_tree::{Expr, Test};
+use abc_show::{Sheet, show_bound};
+use abc_tree::{Bound, Expr, Test};
 
 /// How many levels the expression is high. No line spells one that is higher than it has bytes.
 fn height(tree: &Expr) -> u32 {
@@ -51,6 +51,12 @@ fn print_test_height(rt: &HostRuntime, found: Result<Test, FormulaFault>) -> Res
     Ok(())
 }
 
+fn print_bound(rt: &HostRuntime, bound: &Bound) -> Result<(), Fault> {
+    let mut sheet = Sheet::new(rt.alloc());
+    show_bound(&mut sheet, bound)?;
+    print_sheet(rt, &sheet)
+}
+
 /// The names in front, and how many tokens stand behind them.
 fn print_front(rt: &HostRuntime, found: Result<BoundFront, FormulaFault>) -> Result<(), Fault> {
     print!(rt; " | ")?;
@@ -76,7 +82,7 @@ pub(crate) fn print_readings(rt: &HostRuntime, own: &Names, tokens: &[Lexeme]) -
     print_test_height(rt, whole_test(alloc, own, tokens))?;
     let mut used = Names::new(alloc);
     used_names(alloc, own, tokens, &mut used)?;
-    print_address_names(rt, &used)?;
+    print_names(rt, &used)?;
     let most = MOST_LINE_BYTES as u32;
     print_front(rt, bound_in_front(alloc, own, tokens, most))?;
     print_front(rt, formal_in_front(alloc, own, tokens, most))?;

@@ -7,12 +7,13 @@ use Rattle.abc_journal.specs.declared.layout.Bounds.{Bounds}
 use Rattle.abc_journal.specs.declared.layout.Layout.{Layout}
 use Rattle.abc_journal.specs.Journal.{IsFull, need_of, after_record}
 use Rattle.abc_journal.specs.Commit.{Full, AnswersTo, and_then, recorded, checkpointed, with_room, with_due, is_due, committed}
+use Rattle.abc_store.specs.declared.faults.CommitFault.{CommitFault}
 use Rattle.abc_store.specs.Workspace.{Workspace, checkpoint_of}
 use Rattle.abc_num.specs.declared.limits.TheConstants.{MOST_RECORD_BYTES}
 use Rattle.abc_record.specs.declared.change.Change.{Change}
 use Rattle.abc_record.specs.Spelling.{spelled}
-use Rattle.abc_store.specs.Commit.{Work, Refusal, too_large, kept_in, stored}
-use Rattle.abc_store.specs.inner.Steps.{IsNoFault, IsCheckpoint, IsMadeUp, TakesDue, fits, may_be_due}
+use Rattle.abc_store.specs.Commit.{Work, Refusal, too_large, store_full, kept_in, stored, work_after, IsDecided}
+use Rattle.abc_store.specs.inner.Steps.{IsNoFault, IsCheckpoint, IsMadeUp, TakesDue, commit_fault, fits, may_be_due}
 
 -- what holds after each answer but a fault
 pub unless_fault : {T : Type 0} (r : Result T AppendFault) (P : Type 0) → OnOk r P → (IsFull r → P) → (IsErrOf r Memory → ⊥) → IsNoFault r → P
@@ -139,3 +140,27 @@ refused_by_layout bounds work (change ∷ changes) later refusal some few refuse
     let bytes = length (spelled (change ∷ changes)) in
     let found = kept_in later (committed bounds work.layout bytes (length (checkpoint_of work.kept)) (length (checkpoint_of later))) in
     subst (λ (b : Bool). cond b (Err (too_large bytes)) found ≡ Err refusal) few refused
+
+full_fault : (T : Type 0) (fault : AppendFault) (given : CommitFault) → given ≡ commit_fault fault → IsDecided {T = T} (Err given) → IsFull {T = T} (Err fault)
+full_fault T StoreFault given e decided = absurd (subst (λ (f : CommitFault). IsDecided {T = T} (Err f)) e decided)
+full_fault T Memory given e decided = absurd (subst (λ (f : CommitFault). IsDecided {T = T} (Err f)) e decided)
+full_fault T (StoreFull need limit) given e decided = tt
+
+-- a commit that came to a decision, though the journal failed, found it full
+pub decided_is_full : {T : Type 0} (r : Result T AppendFault) (fault : AppendFault) (given : CommitFault) → r ≡ Err fault → given ≡ commit_fault fault → IsDecided {T = T} (Err given) → IsFull r
+decided_is_full {T} r fault given is e decided = subst (λ (x : Result T AppendFault). IsFull x) (sym is) (full_fault T fault given e decided)
+
+-- a store that is full keeps its workspace, in the layout that is full
+pub full_work : {T : Type 0} (bounds : Bounds) (old : Work) (now : Workspace) (layout : Layout) (changes : List Change) (later : Workspace) (r : Result T AppendFault) → IsFull r
+    → (changes ≡ [] → ⊥) → nat_lt MOST_RECORD_BYTES (length (spelled changes)) ≡ false → now ≡ old.kept
+    → AnswersTo r layout (committed bounds old.layout (length (spelled changes)) (length (checkpoint_of old.kept)) (length (checkpoint_of later)))
+    → record { kept = now; layout = layout } ≡ work_after old (stored bounds old changes later)
+full_work bounds old now layout [] later r full some few same answers = absurd (some refl)
+full_work bounds old now layout (change ∷ changes) later (Ok x) full some few same answers = absurd full
+full_work bounds old now layout (change ∷ changes) later (Err StoreFault) full some few same answers = absurd full
+full_work bounds old now layout (change ∷ changes) later (Err Memory) full some few same answers = absurd full
+full_work bounds old now layout (change ∷ changes) later (Err (StoreFull need limit)) full some few same answers =
+    let bytes = length (spelled (change ∷ changes)) in
+    let found = kept_in later (committed bounds old.layout bytes (length (checkpoint_of old.kept)) (length (checkpoint_of later))) in
+    let is : stored bounds old (change ∷ changes) later ≡ Err (store_full answers.0) = ap (λ (b : Bool). cond b (Err (too_large bytes)) found) few ∙ ap (kept_in later) answers.1 in
+    ap (λ (w : Workspace). record { kept = w; layout = layout }) same ∙ ap (λ (l : Layout). record { kept = old.kept; layout = l }) (sym answers.2) ∙ sym (ap (work_after old) is)

@@ -1,13 +1,14 @@
-use Rattle.std.proofs.Common.{rules, ◌≡◌, false, nat_lt, [], length, Some, ap, sym, subst}
+use Rattle.std.proofs.Common.{rules, ◌≡◌, ◌∙◌, false, nat_lt, [], length, Some, ap, sym, subst}
 use Rattle.abc_num.specs.declared.limits.TheConstants.{MOST_RECORD_BYTES}
 use Rattle.abc_outside.specs.Stop.{Leaves}
 use Rattle.abc_record.specs.Spelling.{spelled}
 use Rattle.abc_store.specs.Workspace.{Workspace}
 use Rattle.abc_store.specs.Opening.{OpensTo}
+use Rattle.abc_journal.specs.Journal.{IsFull}
 use Rattle.abc_store.specs.Commit.{StillOpens}
 use Rattle.abc_store.specs.View.{work_of}
 use Rattle.abc_store.specs.inner.Later.{later_of}
-use Rattle.abc_store.proofs.Stepping.{refused_by_layout}
+use Rattle.abc_store.proofs.Stepping.{refused_by_layout, decided_is_full, full_work}
 use Rattle.abc_store.proofs.store.Store.commit.Goals as goal
 
 pub returns-clause-unfit_stops : goal.returns-clause-unfit_stops
@@ -28,11 +29,30 @@ returns-clause-unfit_stops g c told quiet later refusal made refused =
 pub invariant_of-self-in-Err : goal.invariant_of-self-in-Err
 invariant_of-self-in-Err g c = (c.in_ok-payload.ensures.standing.0, c.in_ok-payload.ensures.standing.1, search rules)
 
+pub returns-clause-work : goal.returns-clause-work
+returns-clause-work g c later made decided =
+    let kept : Workspace = c.self.inside.contents in
+    let last : Workspace = later_of c.prepare.new.contents c.in_ok-payload.later in
+    let both : Some later ≡ Some last = search rules in
+    let same : later ≡ last = cc in
+    let some : c.args.changes.items ≡ [] → ⊥ = search rules in
+    let few : nat_lt MOST_RECORD_BYTES (length (spelled c.args.changes.items)) ≡ false = search rules in
+    let view : kept ≡ c.args.self.now.kept = ap (λ v. v.kept) c.self.view_is in
+    let bounds : c.prepare.new.journal.bounds ≡ c.args.self.now.bounds = search rules in
+    let layout : c.prepare.new.journal.layout ≡ c.args.self.now.layout = search rules in
+    let payload : length c.deref-2.result.now ≡ length (spelled c.args.changes.items) = search rules in
+    let full : IsFull c.write_all.result = decided_is_full c.write_all.result c.in-Err.fault c.from.result c.in-Err.is c.from.ensures decided in
+    let stays : c.prepare.new.contents ≡ kept = search rules in
+    let answers = c.write_all.ensures.layouts kept last (search rules) in
+    full_work c.args.self.now.bounds (work_of c.args.self.now) c.prepare.new.contents c.write_all.new.journal.layout c.args.changes.items later c.write_all.result full some few (stays ∙ view)
+    (rw (sym bounds, sym layout, sym payload, sym view, same) answers)
+
 pub returns-clause-holds : goal.returns-clause-holds
 returns-clause-holds g c told none_wrong =
     let kept : Workspace = c.self.inside.contents in
+    let last : Workspace = later_of c.prepare.new.contents c.in_ok-payload.later in
     let same : c.prepare.new.contents ≡ kept = search rules in
-    let opens : OpensTo (g.H.Host.now c.write_all.new.host).image kept = search rules in
+    let opens : OpensTo (g.H.Host.now c.write_all.new.host).image kept = c.write_all.ensures.full_opens told kept last (search rules) (search rules) (search rules) in
     record {
       layout = search rules;
       opens_to = subst (λ (w : Workspace). OpensTo (g.H.Host.now c.write_all.new.host).image w) (sym same) opens;
