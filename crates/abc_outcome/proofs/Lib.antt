@@ -19,3 +19,4 @@ mod Typed
 mod Accepted
 mod KeepsUnits
 mod Told
+mod TypeLines

@@ -60,6 +60,12 @@ pub record ReadsInside (tells_input tells_said : Type 0) (reading reading_new : 
   pub ended_asks : reading.ended ≡ true → new.asked ≡ old.asked
   pub stands : StandsAt tells_input reading_new new
 
+-- nothing was done: the store, the reader and the host are as before
+pub record NothingDone {H : Type 0} (before after : View) (reading reading_new : Reading) (old new : H) : Type 0 where
+  pub store : after ≡ before
+  pub reader : reading_new ≡ reading
+  pub host : new ≡ old
+
 -- An item was answered, from one host, reader and store to others; whatever it comes to, this holds.
 pub record Keeps {H : Type 0} (tells_image tells_input tells_said : Type 0) (now : H → Outside) (clock : H → ℕ) (stopped : H → ℕ → List ℕ → List ℕ → Type 0)
     (before after : View) (reading reading_new : Reading) (old new : H) (result : Result Answer AnswerFault) : Type 0 where

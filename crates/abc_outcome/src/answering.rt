@@ -1,5 +1,5 @@
 //! The answer to one item.
-ghost use Rattle.std.specs.Prelude.{◌≡◌, ◌<◌, ℕ, [], true, length, Option, IfOk, OnOk, IsTrue};
+ghost use Rattle.std.specs.Prelude.{◌≡◌, ◌<◌, ◌⊎◌, ℕ, [], true, length, Option, IfOk, OnOk, IsErrOf, IsTrue};
 ghost use Rattle.std.specs.List.{AllByRecursion};
 ghost use Rattle.abc_outline.specs.Rows.{IsShort};
 ghost use Rattle.abc_parse.specs.RegularTemplates.{HasRegularTemplates};
@@ -7,11 +7,11 @@ ghost use Rattle.abc_parse.specs.RegularTrees.{IsNumberedItem, IsRegularItem};
 ghost use Rattle.abc_reader.specs.Reading.{IsReader};
 ghost use Rattle.abc_store.specs.Commit.{Holds};
 ghost use Rattle.abc_store.specs.View.{work_of};
-ghost use Rattle.abc_outcome.specs.Answers.{ComesTo, Keeps};
+ghost use Rattle.abc_outcome.specs.Answers.{ComesTo, Keeps, NothingDone};
 ghost use Rattle.abc_outcome.specs.Checks.{IsTypeLineOf, IsUpToDate, TellsOf};
 ghost use Rattle.abc_outcome.specs.Outcome.{Behind, Outcome, outcome};
 ghost use Rattle.abc_outcome.specs.inner.Answering.{Answers, IsAnswered};
-ghost use Rattle.abc_outcome.specs.inner.Steps.{ComesOf, IsSpelledItem, item_in};
+ghost use Rattle.abc_outcome.specs.inner.Steps.{ComesOf, HasTypeLine, IsSpelledItem, item_in};
 
 use crate::commands::answer_command;
 use crate::inquiries::answer_inquiry;
@@ -74,6 +74,7 @@ fn answer_parsed<H: Host>(
     ensures comes { (line : Option ℕ) → TellsOf store.old.kept (item_in parsed) line → (out : Behind → Outcome) → ComesOf line store.old.bounds steps k (work_of store.old) parsed out
         → Answers H.tells_image H.tells_input H.tells_said H.now H.clock H.stopped store.old store.new reader.old reader.new host.old host.new result out }
     ensures answered { IsAnswered H.tells_image H.tells_input H.tells_said H.now H.clock H.stopped store.old store.new reader.old reader.new host.old host.new result }
+    ensures told { HasTypeLine store.old.kept parsed ⊎ (IsErrOf result AnswerFault.Memory × NothingDone store.old store.new reader.old reader.new host.old host.new) }
     ensures up_to_date { OnOk result (IsUpToDate checker.new store.new.kept.units) }
 {
     match parsed {
@@ -124,6 +125,7 @@ pub fn answer_item<H: Host>(
     ensures comes { (line : Option ℕ) → IsTypeLineOf store.old.kept item.now line
         → ComesTo H.tells_image H.tells_input H.tells_said H.now H.clock H.stopped store.old store.new reader.old reader.new host.old host.new result
         (outcome line store.old.bounds steps k (work_of store.old) item.now) }
+    ensures told { ((line : Option ℕ) × IsTypeLineOf store.old.kept item.now line) ⊎ (IsErrOf result AnswerFault.Memory × NothingDone store.old store.new reader.old reader.new host.old host.new) }
     ensures keeps { Keeps H.tells_image H.tells_input H.tells_said H.now H.clock H.stopped store.old store.new reader.old reader.new host.old host.new result }
     ensures up_to_date { OnOk result (IsUpToDate checker.new store.new.kept.units) }
 {

@@ -1,5 +1,5 @@
 //! The answer to a command.
-ghost use Rattle.std.specs.Prelude.{◌≡◌, ℕ, List, Option, None, Some, true, [], IsTrue, IfOk, OnOk};
+ghost use Rattle.std.specs.Prelude.{◌≡◌, ◌⊎◌, ℕ, List, Option, None, Some, true, [], IsTrue, IfOk, OnOk, IsErrOf};
 ghost use Rattle.abc_num.specs.declared.lines.RawLine.{RawLine};
 ghost use Rattle.abc_tree.specs.declared.commands.Item.TheVariants as item;
 ghost use Rattle.abc_groups.specs.Program.{LAST_LINE};
@@ -9,6 +9,7 @@ ghost use Rattle.abc_parse.specs.RegularTemplates.{CommandIsRegular};
 ghost use Rattle.abc_reader.specs.Reading.{IsReader};
 ghost use Rattle.abc_store.specs.Commit.{Holds};
 ghost use Rattle.abc_store.specs.View.{work_of};
+ghost use Rattle.abc_outcome.specs.Answers.{NothingDone};
 ghost use Rattle.abc_outcome.specs.Outcome.{command_outcome, on_end, run_of, run_outcome};
 ghost use Rattle.abc_outcome.specs.inner.Answering.{Answers, IsAnswered};
 ghost use Rattle.abc_outcome.specs.Checks.{IsUpToDate, TakesCommand, TellsOf, TellsTypeLine};
@@ -190,6 +191,7 @@ fn unfit(
     ensures told { (line : Option ℕ) → TellsTypeLine (TakesCommand store.now.kept command.now) LAST_LINE line → IsHindered (if_unfit k line) result }
     ensures fits { IfOk result (λ found. found ≡ None → TakesCommand store.now.kept command.now LAST_LINE) }
     ensures hinders { Hinders result }
+    ensures has_line { OnOk result ((line : Option ℕ) × TellsTypeLine (TakesCommand store.now.kept command.now) LAST_LINE line) }
     ensures up_to_date { IsUpToDate checker.new store.now.kept.units }
 {
     match command_type_line(alloc, store, checker, command) {
@@ -213,6 +215,7 @@ fn hindered(
     ensures none_missing { IfOk result (λ found. found ≡ None → first_missing store.now.kept.units (called_by command.now) ≡ None) }
     ensures fits { IfOk result (λ found. found ≡ None → TakesCommand store.now.kept command.now LAST_LINE) }
     ensures hinders { Hinders result }
+    ensures has_line { OnOk result ((line : Option ℕ) × TellsOf store.now.kept (Some (item.Command command.now)) line) }
     ensures up_to_date { IsUpToDate checker.new store.now.kept.units }
 {
     match missing_of(alloc, store.units(), command) {
@@ -244,6 +247,7 @@ pub(crate) fn answer_command<H: Host>(
     ensures comes { (line : Option ℕ) → TellsOf store.old.kept (Some (item.Command command.now)) line
         → Answers H.tells_image H.tells_input H.tells_said H.now H.clock H.stopped store.old store.new reader.old reader.new host.old host.new result
         (λ behind. command_outcome line store.old.bounds steps k (work_of store.old) behind command.now) }
+    ensures told { ((line : Option ℕ) × TellsOf store.old.kept (Some (item.Command command.now)) line) ⊎ (IsErrOf result AnswerFault.Memory × NothingDone store.old store.new reader.old reader.new host.old host.new) }
     ensures answered { IsAnswered H.tells_image H.tells_input H.tells_said H.now H.clock H.stopped store.old store.new reader.old reader.new host.old host.new result }
     ensures up_to_date { OnOk result (IsUpToDate checker.new store.new.kept.units) }
 {

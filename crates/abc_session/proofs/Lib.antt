@@ -2,7 +2,7 @@ mod Saying
 mod Stops
 mod Broken
 mod Items
-mod Served
+mod TurnsServed
 mod Places
 mod Turns
 mod Runs

@@ -28,10 +28,10 @@ use Rattle.abc_session.specs.Session.{outcome, item_came, session_from, session_
 use Rattle.abc_session.specs.Serving.{OpensTo}
 use Rattle.abc_session.specs.Settled.{settled, AsksSettled, IsWaiting}
 use Rattle.abc_session.specs.Run.{HasEnded}
-use Rattle.abc_session.specs.inner.Place.{Place, start_place, place_at, input_ends, lines_left, session_at, counted_at, WentOn, IsOver, Ended, WasServed, WantsInput, AsksInput}
+use Rattle.abc_session.specs.Place.{Place, start_place, place_at, input_ends, lines_left, session_at, counted_at, WentOn, IsOver, Ended, WasServed, WantsInput, AsksInput}
 use Rattle.abc_session.proofs.Broken.{told_served, idle_between}
 use Rattle.abc_session.proofs.Items.{none_session, waiting_session, unless_quit, item_session, item_waits}
-use Rattle.abc_session.proofs.Served.{after_both, work_both, served}
+use Rattle.abc_session.proofs.TurnsServed.{after_both, work_both, served}
 
 -- the session from the start on is that of the whole input
 pub start_session : (check : Check) (bounds : Bounds) (steps : ℕ) (work : Work) (old : Outside) → session_at check bounds steps (start_place work bounds.input old) ≡ session_of check bounds steps work old.left

@@ -111,6 +111,26 @@ module _ {H : Type 0} (clock : H → ℕ) (stopped : H → ℕ → List ℕ → 
       (λ c s p. subst (λ ls. IsSessionPoint work ls said c s) same_turns (subst (λ t. IsSessionPoint work turns_mid t c s) same_said p)))
       still_point
 
+module _ {H : Type 0} (clock : H → ℕ) (stopped : H → ℕ → List ℕ → List ℕ → Type 0) (old : H) (image said : List ℕ) (still : IsStill clock stopped old image) (says : (c s : List ℕ) → stopped old (clock old) c s → s ≡ said) where
+  -- what a stop may leave before anything is done
+  pub still_here : (c s : List ℕ) → stopped old (clock old) c s → (c ≡ image) × (s ≡ said)
+  still_here c s stop = (still c s stop, says c s stop)
+
+  -- after a choice it leaves nothing else
+  still_chosen : (mid : H) → Passes (clock old) (clock mid) (stopped old) (stopped mid) → ((c s : List ℕ) → stopped mid (clock mid) c s → stopped old (clock old) c s)
+      → Leaves clock stopped old mid (λ c s. (c ≡ image) × (s ≡ said))
+  still_chosen mid time stop = one_call clock stopped old mid _ time (λ c s now. still_here c s (stop c s now))
+
+  pub choice_still : (mid : H) → Passes (clock old) (clock mid) (stopped old) (stopped mid) → ((c s : List ℕ) → stopped mid (clock mid) c s → stopped old (clock old) c s)
+      → (c s : List ℕ) → stopped mid (clock old) c s → (c ≡ image) × (s ≡ said)
+  choice_still mid time stop = at_each clock stopped old mid _ (still_chosen mid time stop) still_here
+
+  -- nor after a run on the store that was chosen, where that adds no stop
+  pub run_still : (mid new : H) → Passes (clock old) (clock mid) (stopped old) (stopped mid) → ((c s : List ℕ) → stopped mid (clock mid) c s → stopped old (clock old) c s)
+      → Leaves clock stopped mid new (stopped mid (clock mid)) → (c s : List ℕ) → stopped new (clock old) c s → (c ≡ image) × (s ≡ said)
+  run_still mid new time stop run =
+      at_each clock stopped old new _ (run_after clock stopped old mid new _ _ (still_chosen mid time stop) run (λ c s now. still_here c s (stop c s now))) still_here
+
 -- nothing is pending after a choice either
 pub quiet_after : {H : Type 0} (clock : H → ℕ) (stopped : H → ℕ → List ℕ → List ℕ → Type 0) (old mid : H) (image image_mid : List ℕ) → IsStill clock stopped old image → image_mid ≡ image
     → ((c s : List ℕ) → stopped mid (clock mid) c s → stopped old (clock old) c s) → BeginsQuiet clock stopped mid image_mid

@@ -19,7 +19,7 @@ use Rattle.abc_outcome.specs.Outcome.{Outcome}
 use Rattle.abc_outcome.specs.Answers.{behind_at}
 use Rattle.abc_session.specs.Session.{outcome, item_came, session_from}
 use Rattle.abc_session.specs.Serving.{OpensTo, IsSessionPoint, IsItemStop}
-use Rattle.abc_session.specs.inner.Place.{Place, input_ends, lines_left, session_at, WasCut}
+use Rattle.abc_session.specs.Place.{Place, input_ends, lines_left, session_at, WasCut}
 use Rattle.abc_session.proofs.Items.{unless_quit, by_quit, came_session}
 use Rattle.abc_session.proofs.Places.{came_here}
 

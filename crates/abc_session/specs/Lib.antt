@@ -1,7 +1,7 @@
 -- What a session reads, says and keeps.
-pub mod inner
 pub mod Product
 pub mod Session
+pub mod Place
 pub mod Serving
 pub mod Settled
 pub mod Run

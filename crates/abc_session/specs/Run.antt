@@ -172,7 +172,7 @@ pub record IsRun {H : Type 0} (tells_chosen tells_image tells_input tells_said :
   pub usage_nothing : status ≡ USAGE → new ≡ old
   pub unread_nothing : reading words ≡ None → new ≡ old
   pub untouched : made_named words ≡ None → tells_image → (at : ℕ) → Opens (tell old).image (Err at) → IsUntouched (tell old) (tell new)
-  pub untouched_stops : made_named words ≡ None → tells_image → IsStill clock stopped old (tell old).image → (at : ℕ) → Opens (tell old).image (Err at) → (c s : List ℕ) → stopped new (clock old) c s → c ≡ (tell old).image
+  pub untouched_stops : made_named words ≡ None → tells_image → IsStill clock stopped old (tell old).image → (at : ℕ) → Opens (tell old).image (Err at) → (c s : List ℕ) → stopped new (clock old) c s → (c ≡ (tell old).image) × (s ≡ (tell old).said)
   pub chosen : tells_chosen → (named : List ℕ × Option (List ℕ)) → store_named words ≡ Some named
       → ((tell new).chosen ≡ chose named (tell old).chosen) ⊎ (((tell new).chosen ≡ (tell old).chosen) × ((status ≡ INPUT_FAULT) ⊎ (status ≡ STORE_FAULT) ⊎ (status ≡ MEMORY)))
   pub none_chosen : store_named words ≡ None → (tell new).chosen ≡ (tell old).chosen

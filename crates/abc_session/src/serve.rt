@@ -1,5 +1,5 @@
 //! The serving of one item.
-ghost use Rattle.std.specs.Prelude.{◌≡◌, ◌≤◌, ◌<◌, ◌⊎◌, ◌+◌, ◌-◌, ◌^◌, List, ℕ, true, length, IfOk, OnOk, IsOk, IsErrOf, IsTrue};
+ghost use Rattle.std.specs.Prelude.{◌≡◌, ◌≤◌, ◌<◌, ◌⊎◌, ◌+◌, ◌-◌, ◌^◌, List, ℕ, Option, true, length, IfOk, OnOk, IsOk, IsErrOf, IsTrue};
 ghost use Rattle.std.specs.List.{AllByRecursion};
 ghost use Rattle.abc_num.specs.declared.limits.TheConstants.{MOST_LINE_BYTES};
 ghost use Rattle.abc_outside.specs.Outside.{RoseByOne, IsFaultless};
@@ -8,11 +8,11 @@ ghost use Rattle.abc_reader.specs.Asking.{Asked};
 ghost use Rattle.abc_reader.specs.Reading.{StandsAt};
 ghost use Rattle.abc_store.specs.Commit.{Holds};
 ghost use Rattle.abc_store.specs.View.{work_of};
-ghost use Rattle.abc_outcome.specs.Answers.{behind_at, WantsInside, AsksInside, ReadsInside};
-ghost use Rattle.abc_outcome.specs.Checks.{Check, IsExact, IsUpToDate};
+ghost use Rattle.abc_outcome.specs.Answers.{behind_at, WantsInside, AsksInside, NothingDone, ReadsInside};
+ghost use Rattle.abc_outcome.specs.Checks.{Check, IsExact, IsTypeLineOf, IsUpToDate};
 ghost use Rattle.abc_session.specs.Session.{outcome};
 ghost use Rattle.abc_session.specs.Serving.{OpensTo, IsItemStop, NoneFell, OnlyInputFailed, OnlyStoreFailed, OnlySinkFailed};
-ghost use Rattle.abc_session.specs.inner.Place.{place_at, WasServed, WasCut};
+ghost use Rattle.abc_session.specs.Place.{place_at, WasServed, WasCut};
 
 use crate::say::say_all;
 use abc_check::Checker;
@@ -26,18 +26,23 @@ use std::alloc::Global;
 
 /// What was served.
 #[derive(Clone, Copy, Debug, PartialEq, Eq)]
-pub(crate) struct Served {
+pub struct Served {
     /// The session ends with this item.
-    pub(crate) quit: bool,
+    pub quit: bool,
 }
 
 /// Why an item is not served.
 #[derive(Clone, Copy, Debug, PartialEq, Eq)]
-pub(crate) enum ServeStop {
+pub enum ServeStop {
+    /// The input failed where the item wants a line.
     Input,
+    /// The bytes that may be taken from the input are all taken, and the item wants a line.
     Long,
+    /// A call on the store failed. The store isn't sound any more.
     StoreFault,
+    /// The item was answered and kept, but its reply was not said, or a front of it alone.
     SinkFault,
+    /// There was not enough memory.
     Memory,
 }
 
@@ -47,6 +52,7 @@ fn stop_of_answer(fault: AnswerFault) -> ServeStop
     ensures long { result ≡ ServeStop.Long → fault ≡ AnswerFault.Long }
     ensures store_fault { result ≡ ServeStop.StoreFault → fault ≡ AnswerFault.StoreFault }
     ensures memory { result ≡ ServeStop.Memory → fault ≡ AnswerFault.Memory }
+    ensures starved { fault ≡ AnswerFault.Memory → result ≡ ServeStop.Memory }
     ensures not_sink { result ≡ ServeStop.SinkFault → ⊥ }
 {
     match fault {
@@ -58,8 +64,11 @@ fn stop_of_answer(fault: AnswerFault) -> ServeStop
 }
 
 /// Serves item `k`, which may take so many steps, and takes the lines that it wants from those behind it: what it changes
-/// is kept, and then its reply is said and counted.
-pub(crate) fn serve_item<H: Host>(
+/// is kept, and then its reply is said and counted. A session hands the checker of the units and the tally of its replies from
+/// item to item.
+///
+/// Errors: those of `answer_item`, and `SinkFault` where the reply could not be said whole.
+pub fn serve_item<H: Host>(
     alloc: Global,
     store: &mut Store,
     checker: &mut Option<Checker>,
@@ -81,6 +90,7 @@ pub(crate) fn serve_item<H: Host>(
     ensures served { (check : Check) → IsExact check → H.tells_input → IfOk result (λ done. WasServed (outcome check store.old.bounds steps k (work_of store.old) item.now) H.tells_said
         (place_at k (work_of store.old) reader.old (H.now host.old)) (place_at k (work_of store.new) reader.new (H.now host.new)) tally.old tally.new done.quit) }
     ensures counted { OnOk result (tally.new.items ≡ tally.old.items + 1) }
+    ensures told { ((line : Option ℕ) × IsTypeLineOf store.old.kept item.now line) ⊎ (IsErrOf result ServeStop.Memory × NothingDone store.old store.new reader.old reader.new host.old host.new) }
     ensures cut { (check : Check) → IsExact check → H.tells_said → H.tells_input → IsErrOf result ServeStop.SinkFault → WasCut (outcome check store.old.bounds steps k (work_of store.old) item.now)
         (place_at k (work_of store.old) reader.old (H.now host.old)) (place_at k (work_of store.new) reader.new (H.now host.new)) }
     ensures unsaid { (IsErrOf result ServeStop.Input ⊎ IsErrOf result ServeStop.Long ⊎ IsErrOf result ServeStop.StoreFault ⊎ IsErrOf result ServeStop.Memory)

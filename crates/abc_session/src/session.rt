@@ -13,7 +13,7 @@ ghost use Rattle.abc_session.specs.Session.{session_of};
 ghost use Rattle.abc_session.specs.Serving.{OpensTo, IsSessionPoint, NoneFell, OnlyInputFailed, OnlyStoreFailed, OnlySinkFailed};
 ghost use Rattle.abc_session.specs.Settled.{AsksSettled, IsWaiting};
 ghost use Rattle.abc_session.specs.Run.{HasEnded};
-ghost use Rattle.abc_session.specs.inner.Place.{place_at, session_at, counted_at, WentOn, Ended, WantsInput, AsksInput};
+ghost use Rattle.abc_session.specs.Place.{place_at, session_at, counted_at, WentOn, Ended, WantsInput, AsksInput};
 
 use crate::serve::{ServeStop, serve_item};
 use abc_check::Checker;

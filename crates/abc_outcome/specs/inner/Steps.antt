@@ -10,7 +10,7 @@ use Rattle.abc_journal.specs.declared.layout.Bounds.{Bounds}
 use Rattle.abc_store.specs.declared.faults.CommitFault.{CommitFault}
 use Rattle.abc_store.specs.declared.faults.CommitFault.TheVariants as commit
 use Rattle.abc_store.specs.Commit.{Work}
-use Rattle.abc_store.specs.Workspace.{unit_of_lines}
+use Rattle.abc_store.specs.Workspace.{Workspace, unit_of_lines}
 use Rattle.abc_record.specs.Kept.{IsKeptText}
 use Rattle.abc_inquiry.specs.declared.answering.Answered.{Answered}
 use Rattle.abc_inquiry.specs.declared.answering.Answered.TheVariants.{Drops}
@@ -20,6 +20,7 @@ use Rattle.abc_machine.specs.declared.outcome.RunStop.TheVariants as broken
 use Rattle.abc_outcome.specs.declared.answering.Answer.{Answer}
 use Rattle.abc_outcome.specs.declared.answering.AnswerFault.{AnswerFault}
 use Rattle.abc_outcome.specs.declared.answering.AnswerFault.TheVariants as stops
+use Rattle.abc_outcome.specs.Checks.{TellsOf}
 use Rattle.abc_outcome.specs.Names.{fault_name}
 use Rattle.abc_outcome.specs.Missing.{called_by, first_missing, line_to}
 use Rattle.abc_outcome.specs.Reply.{fault_line, missing_line}
@@ -35,6 +36,12 @@ ComesOf line bounds budget k work (Err Memory) out = Unit {0}
 abbrev pub item_in : Result Item ItemFault → Option Item
 item_in (Ok item) = Some item
 item_in (Err fault) = None
+
+-- The item that was read has a type line; one in which a fault stands needs none. For want of memory nothing was read.
+abbrev pub HasTypeLine : Workspace → Result Item ItemFault → Type 0
+HasTypeLine kept (Ok item) = (line : Option ℕ) × TellsOf kept (Some item) line
+HasTypeLine kept (Err (At fault)) = Unit {0}
+HasTypeLine kept (Err Memory) = ⊥
 
 -- an item that is a unit is spelled by its own lines, of which there is one at least, and the template of a unit that is to be taken out can be spelled
 abbrev pub IsSpelledItem : Item → Type 0

@@ -1,9 +1,11 @@
-use Rattle.std.proofs.Common.{◌≡◌, ◌∙◌, ap}
+use Rattle.std.proofs.Common.{◌≡◌, ◌∙◌, inr, refl, ap}
 use Rattle.std.specs.Map.{keys_of}
 use Rattle.abc_store.specs.View.{work_of}
 use Rattle.abc_outcome.specs.Outcome.{outcome}
+use Rattle.abc_outcome.specs.inner.Steps.{HasTypeLine}
 use Rattle.abc_outcome.proofs.Items.{comes_of, spelled_items, tells_parsed}
 use Rattle.abc_outcome.proofs.Told.{comes_to, keeps_of}
+use Rattle.abc_outcome.proofs.TypeLines.{has_line, or_else}
 use Rattle.abc_outcome.proofs.answering.answer_item.Goals as goal
 
 pub answer_parsed-requires-clause-spelled : goal.answer_parsed-requires-clause-spelled
@@ -30,3 +32,12 @@ returns-clause-comes g c line tells =
 
 pub returns-clause-keeps : goal.returns-clause-keeps
 returns-clause-keeps g c = keeps_of g.H.Host.tells_image g.H.Host.tells_input g.H.Host.tells_said g.H.Host.now g.H.Host.clock g.H.Host.stopped c.args.store.now c.answer_parsed.new.store c.args.reader.now c.answer_parsed.new.reader c.args.host.now c.answer_parsed.new.host c.answer_parsed.result c.answer_parsed.ensures.answered
+
+pub returns-clause-told : goal.returns-clause-told
+returns-clause-told g c =
+    let kept = c.args.store.now.kept in
+    or_else (HasTypeLine kept c.parse_item.result) _
+    (has_line kept c.args.item.now c.in-Ok.names c.parse_item.result (c.in-Ok.ensures.names ∙ ap keys_of c.targets.ensures.targets) c.parse_item.ensures.computed c.parse_item.ensures.fault) (λ none. none) c.answer_parsed.ensures.told
+
+pub returns-in-Err-clause-told : goal.returns-in-Err-clause-told
+returns-in-Err-clause-told g c = inr (refl, record { store = refl; reader = refl; host = refl })

@@ -1,4 +1,4 @@
-use Rattle.std.proofs.Common.{◌≡◌, ◌∙◌, ℕ, List, [], Ok, Err, sym, ap, subst, rules}
+use Rattle.std.proofs.Common.{◌≡◌, ◌∙◌, ℕ, List, [], None, Ok, Err, inl, inr, refl, sym, ap, subst, rules}
 use Rattle.std.specs.Prelude.{IfOk, Result}
 use Rattle.abc_tree.specs.declared.commands.Item.{Item}
 use Rattle.abc_tree.specs.declared.commands.Item.TheVariants as item
@@ -14,9 +14,10 @@ use Rattle.abc_outcome.specs.Names.{fault_name}
 use Rattle.abc_outcome.specs.Outcome.{Behind, Outcome, ends_with, inquiry_outcome, on_item}
 use Rattle.abc_outcome.specs.Reply.{fault_line, said}
 use Rattle.abc_outcome.specs.inner.Settling.{Settles}
-use Rattle.abc_outcome.specs.inner.Steps.{ComesOf, IsSpelledItem, Refuses, item_in}
+use Rattle.abc_outcome.specs.inner.Steps.{ComesOf, HasTypeLine, IsSpelledItem, Refuses, item_in}
 use Rattle.abc_outcome.proofs.Lifted.{settled}
 use Rattle.abc_outcome.proofs.Stays.{refused, starved}
+use Rattle.abc_outcome.proofs.TypeLines.{or_else, unit_told}
 use Rattle.abc_outcome.proofs.answering.answer_parsed.Given.{Over}
 use Rattle.abc_outcome.proofs.answering.answer_parsed.Goals.{After-refusal}
 use Rattle.abc_outcome.proofs.answering.answer_parsed.Goals as goal
@@ -107,3 +108,31 @@ returns-in-Err-Memory-clause-answered g c =
           out c.requires.is_reader c.requires.same_count c.requires.at_end
           (λ behind. starved g.H.Host.tells_image g.H.Host.now g.H.Host.clock g.H.Host.stopped c.args.store.now c.args.host.now behind.lines wants),
     )
+
+pub returns-in-Ok-Command-clause-told : goal.returns-in-Ok-Command-clause-told
+returns-in-Ok-Command-clause-told g c =
+    let kept = c.args.store.now.kept in
+    let command = c.in-Ok-Command.command in
+    let is : c.args.parsed ≡ Ok (item.Command command) = c.in-Ok-Command.is ∙ ap Ok c.in-Ok-Command.field-0-is in
+    or_else (HasTypeLine kept (Ok (item.Command command))) _ (subst (HasTypeLine kept) (sym is)) (λ none. none) c.answer_command.ensures.told
+
+pub returns-in-Ok-Unit-clause-told : goal.returns-in-Ok-Unit-clause-told
+returns-in-Ok-Unit-clause-told g c =
+    let kept = c.args.store.now.kept in
+    let unit = c.in-Ok-Unit.unit in
+    let is : c.args.parsed ≡ Ok (item.Unit unit) = c.in-Ok-Unit.is ∙ ap Ok c.in-Ok-Unit.field-0-is in
+    or_else (HasTypeLine kept (Ok (item.Unit unit))) _ (subst (HasTypeLine kept) (sym is)) (λ none. none)
+    (unit_told kept unit _ c.args.store.now c.answer_unit.new.store c.args.reader.now c.args.host.now c.answer_unit.new.host c.answer_unit.ensures.told)
+
+pub returns-in-Ok-Environment-clause-told : goal.returns-in-Ok-Environment-clause-told
+returns-in-Ok-Environment-clause-told g c =
+    let is : c.args.parsed ≡ Ok (item.Environment c.in-Ok-Environment.asked) = c.in-Ok-Environment.is ∙ ap Ok c.in-Ok-Environment.field-0-is in
+    inl (subst (HasTypeLine c.args.store.now.kept) (sym is) (None, tt))
+
+pub returns-in-Err-At-clause-told : goal.returns-in-Err-At-clause-told
+returns-in-Err-At-clause-told g c =
+    let is : c.args.parsed ≡ Err (At c.in-Err-At.fault) = search rules in
+    inl (subst (HasTypeLine c.args.store.now.kept) (sym is) tt)
+
+pub returns-in-Err-Memory-clause-told : goal.returns-in-Err-Memory-clause-told
+returns-in-Err-Memory-clause-told g c = inr (refl, record { store = refl; reader = refl; host = refl })

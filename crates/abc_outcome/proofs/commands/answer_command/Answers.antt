@@ -1,4 +1,4 @@
-use Rattle.std.proofs.Common.{ℕ, List, [], Option, None, Some, Ok, Err, sym, subst}
+use Rattle.std.proofs.Common.{ℕ, List, [], Option, None, Some, Ok, Err, inl, inr, refl, sym, ap, subst}
 use Rattle.abc_turns.specs.Session.{wants}
 use Rattle.abc_store.specs.View.{work_of}
 use Rattle.abc_outcome.specs.declared.answering.Answer.{Answer}
@@ -87,3 +87,12 @@ returns-in-Err-clause-answered g c = (
       (λ behind. wants) c.requires.is_reader c.requires.same_count c.requires.at_end
       (λ behind. starved_so g.H.Host.tells_image g.H.Host.now g.H.Host.clock g.H.Host.stopped c.args.store.now c.args.host.now behind.lines wants c.in-Err.fault c.in-Err.ensures.hinders),
 )
+
+pub returns-in-Ok-None-clause-told : goal.returns-in-Ok-None-clause-told
+returns-in-Ok-None-clause-told g c = inl c.in-Ok-None.ensures.has_line
+
+pub returns-in-Ok-Some-clause-told : goal.returns-in-Ok-Some-clause-told
+returns-in-Ok-Some-clause-told g c = inl c.in-Ok-Some.ensures.has_line
+
+pub returns-in-Err-clause-told : goal.returns-in-Err-clause-told
+returns-in-Err-clause-told g c = inr (ap Err c.in-Err.ensures.hinders, record { store = refl; reader = refl; host = refl })

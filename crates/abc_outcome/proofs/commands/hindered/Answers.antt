@@ -1,11 +1,13 @@
-use Rattle.std.proofs.Common.{◌≡◌, None, Some, sym, subst, rules, List, ℕ, Option}
+use Rattle.std.proofs.Common.{◌≡◌, ◌∙◌, None, Some, ap, sym, subst, rules, List, ℕ, Option}
+use Rattle.abc_tree.specs.declared.commands.Item.TheVariants as item
 use Rattle.abc_tree.specs.declared.commands.Unit.{Unit as Routine}
 use Rattle.abc_groups.specs.Program.{LAST_LINE}
-use Rattle.abc_outcome.specs.Checks.{TakesCommand}
+use Rattle.abc_outcome.specs.Checks.{TakesCommand, TellsOf, TellsTypeLine}
 use Rattle.abc_outcome.specs.Missing.{called_by, first_missing, line_to}
 use Rattle.abc_outcome.specs.Reply.{missing_line}
 use Rattle.abc_outcome.specs.inner.Steps.{IsHindered, Refuses, if_missing, if_unfit}
 use Rattle.abc_outcome.proofs.Hindering.{always, hinders_of, none_told}
+use Rattle.abc_outcome.proofs.TypeLines.{on_any, on_ok_then}
 use Rattle.abc_outcome.proofs.commands.hindered.Goals as goal
 
 pub returns-in-Ok-None-clause-told : goal.returns-in-Ok-None-clause-told
@@ -49,3 +51,19 @@ returns-in-Ok-Some-clause-hinders c =
     let told : Refuses (missing_line c.args.k c.in-Ok-Some.unit.line t) c.missing.result =
     subst (λ (b : List ℕ). Refuses (missing_line c.args.k c.in-Ok-Some.unit.line b) c.missing.result) c.bytes.ensures c.missing.ensures in
     hinders_of (missing_line c.args.k c.in-Ok-Some.unit.line t) c.one.result (c.one.ensures.told (missing_line c.args.k c.in-Ok-Some.unit.line t) told)
+
+pub returns-in-Ok-None-clause-has_line : goal.returns-in-Ok-None-clause-has_line
+returns-in-Ok-None-clause-has_line c =
+    let kept = c.args.store.now.kept in
+    let command = c.args.command.now in
+    on_ok_then ((line : Option ℕ) × TellsTypeLine (TakesCommand kept command) LAST_LINE line) ((line : Option ℕ) × TellsOf kept (Some (item.Command command)) line) c.unfit.result
+    (λ told. (told.0, λ none. told.1)) c.unfit.ensures.has_line
+
+-- a command that reaches a missing unit isn't checked
+pub returns-in-Ok-Some-clause-has_line : goal.returns-in-Ok-Some-clause-has_line
+returns-in-Ok-Some-clause-has_line c =
+    let kept = c.args.store.now.kept in
+    let command = c.args.command.now in
+    let first : first_missing c.units.result.now (called_by command) ≡ Some c.in-Ok-Some.unit.template = search rules in
+    let there : first_missing kept.units (called_by command) ≡ Some c.in-Ok-Some.unit.template = ap (λ (units : List Routine). first_missing units (called_by command)) (sym c.units.ensures.units) ∙ first in
+    on_any ((line : Option ℕ) × TellsOf kept (Some (item.Command command)) line) c.one.result (None, λ none. absurd (cc (there, none)))

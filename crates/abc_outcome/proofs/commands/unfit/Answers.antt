@@ -4,6 +4,7 @@ use Rattle.abc_outcome.specs.Checks.{TakesCommand, TellsTypeLine}
 use Rattle.abc_outcome.specs.Reply.{fault_line, said}
 use Rattle.abc_outcome.specs.inner.Steps.{IsHindered, Refuses, if_unfit}
 use Rattle.abc_outcome.proofs.Hindering.{hinders_of, none_told}
+use Rattle.abc_outcome.proofs.TypeLines.{on_any}
 use Rattle.abc_outcome.proofs.Typed.{lines_are_one}
 use Rattle.abc_outcome.proofs.commands.unfit.Goals as goal
 use Rattle.abc_outcome.proofs.commands.unfit.Goals.{After-refusal}
@@ -39,3 +40,11 @@ pub returns-in-Ok-Some-clause-hinders : goal.returns-in-Ok-Some-clause-hinders
 returns-in-Ok-Some-clause-hinders c =
     let line = fault_line c.args.k c.in-Ok-Some.line (codes "TypeFault") in
     hinders_of line c.one.result (c.one.ensures.told line (refused (goal.at.returns-in-Ok-Some-clause-hinders c).After-refusal))
+
+pub returns-in-Ok-None-clause-has_line : goal.returns-in-Ok-None-clause-has_line
+returns-in-Ok-None-clause-has_line c = (None, subst (TellsTypeLine (TakesCommand c.args.store.now.kept c.args.command.now) LAST_LINE) c.in-Ok-None.field-0-is c.in-Ok-None.ensures.told)
+
+pub returns-in-Ok-Some-clause-has_line : goal.returns-in-Ok-Some-clause-has_line
+returns-in-Ok-Some-clause-has_line c =
+    let takes = TakesCommand c.args.store.now.kept c.args.command.now in
+    on_any ((line : Option ℕ) × TellsTypeLine takes LAST_LINE line) c.one.result (Some c.in-Ok-Some.line, subst (TellsTypeLine takes LAST_LINE) c.in-Ok-Some.field-0-is c.in-Ok-Some.ensures.told)

@@ -1,4 +1,4 @@
-use Rattle.std.proofs.Common.{ℕ, List, [], length, codes, Option, None, Some, subst}
+use Rattle.std.proofs.Common.{ℕ, List, [], length, codes, Option, None, Some, inl, inr, refl, subst}
 use Rattle.abc_store.specs.View.{work_of}
 use Rattle.abc_outcome.specs.Checks.{TakesUnit, TellsTypeLine}
 use Rattle.abc_outcome.specs.Outcome.{ends_with, set_outcome, unless_unfit}
@@ -45,3 +45,12 @@ returns-in-Ok-Some-clause-comes g c line tells behind =
 pub returns-in-Ok-Some-clause-settles : goal.returns-in-Ok-Some-clause-settles
 returns-in-Ok-Some-clause-settles g c behind =
     (ends_with (work_of c.args.store.now) behind.lines [] (fault_line c.args.k c.in-Ok-Some.line (codes "TypeFault")), refused_there g (goal.at.returns-in-Ok-Some-clause-settles g c).After-refusal behind.lines)
+
+pub returns-in-Ok-None-clause-told : goal.returns-in-Ok-None-clause-told
+returns-in-Ok-None-clause-told g c = inl (None, subst (TellsTypeLine (TakesUnit c.args.store.now.kept c.args.unit) (length c.args.unit.lines)) c.in-Ok-None.field-0-is c.in-Ok-None.ensures)
+
+pub returns-in-Ok-Some-clause-told : goal.returns-in-Ok-Some-clause-told
+returns-in-Ok-Some-clause-told g c = inl (Some c.in-Ok-Some.line, subst (TellsTypeLine (TakesUnit c.args.store.now.kept c.args.unit) (length c.args.unit.lines)) c.in-Ok-Some.field-0-is c.in-Ok-Some.ensures)
+
+pub returns-in-Err-clause-told : goal.returns-in-Err-clause-told
+returns-in-Err-clause-told g c = inr (refl, refl, refl)

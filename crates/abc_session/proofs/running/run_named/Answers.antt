@@ -13,7 +13,7 @@ use Rattle.abc_session.specs.Serving.{IsStill}
 use Rattle.abc_session.specs.Settled.{AsksSettled}
 use Rattle.abc_reader.proofs.Asks.{none_asked}
 use Rattle.abc_session.proofs.Broken.{idle_broken}
-use Rattle.abc_session.proofs.Runs.{not_wrong, choice_points, run_points, quiet_after, last_opens, one_start, same_choice, choice_now, same_complete, same_stands, names_one}
+use Rattle.abc_session.proofs.Runs.{not_wrong, choice_points, choice_still, run_points, run_still, quiet_after, last_opens, one_start, same_choice, choice_now, same_complete, same_stands, names_one}
 use Rattle.abc_session.proofs.running.run_named.Given.{Over}
 use Rattle.abc_session.proofs.running.run_named.Goals.{After-choose}
 use Rattle.abc_session.proofs.running.run_named.Goals as goal
@@ -57,7 +57,8 @@ returns-in-Err-Store g c =
         usage_nothing = search rules;
         unread_nothing = λ none. absurd (cc (reads, none));
         untouched = search rules;
-        untouched_stops = search rules;
+        untouched_stops = λ unmade told still at wrong.
+            choice_still g.H.Host.clock g.H.Host.stopped c.args.host.now old.image old.said still (g.met.H.Host.says_now c.args.host.now) c.choose.new.self c.choose.ensures.time c.choose.ensures.stop;
         chosen = search rules;
         none_chosen = λ none. absurd (cc (ap store_in reads, none));
         asked = λ check exact told told_said told_input work start. none_asked_by g chosen check exact c.args.steps work;
@@ -96,7 +97,8 @@ returns-in-Err-Input g c =
         usage_nothing = search rules;
         unread_nothing = λ none. absurd (cc (reads, none));
         untouched = search rules;
-        untouched_stops = search rules;
+        untouched_stops = λ unmade told still at wrong.
+            choice_still g.H.Host.clock g.H.Host.stopped c.args.host.now old.image old.said still (g.met.H.Host.says_now c.args.host.now) c.choose.new.self c.choose.ensures.time c.choose.ensures.stop;
         chosen = search rules;
         none_chosen = λ none. absurd (cc (ap store_in reads, none));
         asked = λ check exact told told_said told_input work start. none_asked_by g chosen check exact c.args.steps work;
@@ -140,7 +142,9 @@ returns-in-Ok g c =
         usage_nothing = search rules;
         unread_nothing = λ none. absurd (cc (reads, none));
         untouched = search rules;
-        untouched_stops = search rules;
+        untouched_stops = λ unmade told still at wrong.
+            run_still g.H.Host.clock g.H.Host.stopped c.args.host.now old.image old.said still (g.met.H.Host.says_now c.args.host.now) c.choose.new.self c.run_store.new.host c.choose.ensures.time c.choose.ensures.stop
+            (c.run_store.ensures.untouched_stops told at (subst (λ (i : List ℕ). Opens i (Err at)) (sym c.choose.ensures.rest.image) wrong));
         chosen = λ told named is. inl (c.run_store.ensures.chosen ∙ c.in-Ok.ensures.chosen told ∙ ap (λ n. chose n old.chosen) (names_one words _ _ _ reads named is));
         none_chosen = λ none. absurd (cc (ap store_in reads, none));
         asked = λ check exact told told_said told_input work start.

@@ -6,7 +6,7 @@ use Rattle.abc_session.specs.Serving.{OpensTo}
 use Rattle.abc_words.specs.Words.{reading}
 use Rattle.abc_session.specs.Run.{store_in, made_in, steps_in, steps_named, IsRun}
 use Rattle.abc_session.proofs.Broken.{idle_between}
-use Rattle.abc_session.proofs.Runs.{still_point}
+use Rattle.abc_session.proofs.Runs.{still_here, still_point}
 use Rattle.abc_session.proofs.Summing.{made_run, made_idle}
 use Rattle.abc_session.proofs.running.run_within.Goals as goal
 
@@ -52,7 +52,7 @@ returns-in-Err-Usage g c =
         usage_nothing = search rules;
         unread_nothing = λ _. refl;
         untouched = search rules;
-        untouched_stops = search rules;
+        untouched_stops = λ unmade told still at wrong. still_here g.H.Host.clock g.H.Host.stopped c.args.host.now old.image old.said still (g.met.H.Host.says_now c.args.host.now);
         chosen = λ told named is. absurd (cc (ap store_in none, is));
         none_chosen = λ _. refl;
         asked = λ check exact told told_said told_input work start. none_asked _ _;
@@ -88,7 +88,7 @@ returns-in-Err-Memory g c =
         usage_nothing = search rules;
         unread_nothing = λ _. refl;
         untouched = search rules;
-        untouched_stops = search rules;
+        untouched_stops = λ unmade told still at wrong. still_here g.H.Host.clock g.H.Host.stopped c.args.host.now old.image old.said still (g.met.H.Host.says_now c.args.host.now);
         chosen = λ told named is. inr (refl, inr (inr refl));
         none_chosen = λ _. refl;
         asked = λ check exact told told_said told_input work start. none_asked _ _;

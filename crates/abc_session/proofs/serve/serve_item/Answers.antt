@@ -1,4 +1,5 @@
-use Rattle.std.proofs.Common.{◌<◌, ◌∙◌, ◌++◌, List, ℕ, length, take, refl, sym, ap, subst}
+use Rattle.std.proofs.Common.{◌≡◌, ◌<◌, ◌⊎◌, inl, inr, ◌∙◌, ◌++◌, List, ℕ, length, take, refl, sym, ap, subst}
+use Rattle.std.specs.Prelude.{Result, Ok, Err, IsErrOf}
 use Rattle.abc_outside.specs.Stop.{Leaves, IsQuiet}
 use Rattle.abc_outside.proofs.Leaves.{weaken}
 use Rattle.abc_turns.specs.Stops.{in_commit}
@@ -10,7 +11,11 @@ use Rattle.abc_outcome.specs.Answers.{behind_at, work_in, CameTo, AsksInside}
 use Rattle.abc_outcome.specs.Checks.{Check, IsExact}
 use Rattle.abc_session.specs.Session.{outcome}
 use Rattle.abc_session.specs.Serving.{OpensTo, reply_in, IsItemStop}
+use Rattle.abc_outcome.specs.declared.answering.Answer.{Answer}
+use Rattle.abc_outcome.specs.declared.answering.AnswerFault.{AnswerFault}
 use Rattle.abc_outcome.specs.declared.answering.AnswerFault.TheVariants as answer
+use Rattle.abc_session.specs.declared.serve.Served.{Served}
+use Rattle.abc_session.specs.declared.serve.ServeStop.{ServeStop}
 use Rattle.abc_session.specs.declared.serve.ServeStop.TheVariants as serve
 use Rattle.abc_session.proofs.Places.{came_here}
 use Rattle.abc_session.proofs.Saying.{saying_stops}
@@ -96,3 +101,26 @@ pub returns-in-Err-clause-stops : goal.returns-in-Err-clause-stops
 returns-in-Err-clause-stops g c check exact told told_said told_input quiet =
     weaken g.H.Host.clock g.H.Host.stopped c.args.host.now c.answer_item.new.host _ _
     ((c.answer_item.ensures.comes (check c.args.store.now.kept c.args.item.now) (exact c.args.store.now.kept c.args.item.now)).stops told told_input quiet) (λ i s p. in_commit p)
+
+-- an item that was answered has a type line
+told_so : {X A : Type 0} (P N : Type 0) (x : X) → P ⊎ (IsErrOf {T = X} (Ok x) answer.Memory × N) → P ⊎ A
+told_so P N x (inl told) = inl told
+told_so P N x (inr none) = let starved = none.0 in absurd (cc starved)
+
+-- one that was not has one too, or there was not enough memory
+told_stop : (P N : Type 0) (r : Result Answer AnswerFault) (fault : AnswerFault) (stop : ServeStop) → r ≡ Err fault → (fault ≡ answer.Memory → stop ≡ serve.Memory)
+    → P ⊎ (IsErrOf r answer.Memory × N) → P ⊎ (IsErrOf {T = Served} (Err stop) serve.Memory × N)
+told_stop P N r fault stop is so (inl told) = inl told
+told_stop P N r fault stop is so (inr none) = inr (ap Err (so (same_fault (sym is ∙ none.0))), none.1)
+  where
+    same_fault : ◌≡◌ {A = Result Answer AnswerFault} (Err fault) (Err answer.Memory) → fault ≡ answer.Memory
+    same_fault e = cc
+
+pub returns-in-Ok-say_all-clause-told : goal.returns-in-Ok-say_all-clause-told
+returns-in-Ok-say_all-clause-told g c = told_so _ _ c.in-Ok.answered c.in-Ok.ensures.told
+
+pub returns-clause-told : goal.returns-clause-told
+returns-clause-told g c = told_so _ _ c.in-Ok.answered c.in-Ok.ensures.told
+
+pub returns-in-Err-clause-told : goal.returns-in-Err-clause-told
+returns-in-Err-clause-told g c = told_stop _ _ c.answer_item.result c.in-Err.fault c.stop_of_answer.result c.in-Err.is c.stop_of_answer.ensures.starved c.answer_item.ensures.told

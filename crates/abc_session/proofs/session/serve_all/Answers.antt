@@ -13,7 +13,7 @@ use Rattle.abc_outcome.specs.Checks.{Check, IsExact}
 use Rattle.abc_session.specs.Session.{session_of}
 use Rattle.abc_session.specs.Serving.{OpensTo, IsSessionPoint}
 use Rattle.abc_session.specs.Settled.{AsksSettled}
-use Rattle.abc_session.specs.inner.Place.{Place, start_place, place_at, session_at, counted_at, WentOn, Ended, WantsInput, AsksInput}
+use Rattle.abc_session.specs.Place.{Place, start_place, place_at, session_at, counted_at, WentOn, Ended, WantsInput, AsksInput}
 use Rattle.abc_reader.specs.Reading.{fresh}
 use Rattle.abc_reader.proofs.Asks.{rising_then, rising_ends}
 use Rattle.abc_session.proofs.Broken.{told_served, idle_between}

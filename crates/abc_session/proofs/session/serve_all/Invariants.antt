@@ -10,7 +10,7 @@ use Rattle.abc_store.specs.Commit.{Holds}
 use Rattle.abc_store.specs.View.{work_of}
 use Rattle.abc_session.specs.Serving.{IsSessionPoint, NoneFell}
 use Rattle.abc_session.specs.Settled.{AsksSettled}
-use Rattle.abc_session.specs.inner.Place.{start_place, place_at, counted_at, WentOn}
+use Rattle.abc_session.specs.Place.{start_place, place_at, counted_at, WentOn}
 use Rattle.abc_session.proofs.session.serve_all.Given as goal
 
 abbrev pub invariant-items : goal.invariant-items

@@ -11,7 +11,7 @@ use Rattle.abc_reader.proofs.Asks.{rising_then}
 use Rattle.abc_store.specs.View.{work_of}
 use Rattle.abc_outcome.specs.Checks.{Check, IsExact}
 use Rattle.abc_session.specs.Serving.{OpensTo, IsSessionPoint}
-use Rattle.abc_session.specs.inner.Place.{Place, place_at, input_ends, lines_left, session_at, WantsInput, AsksInput}
+use Rattle.abc_session.specs.Place.{Place, place_at, input_ends, lines_left, session_at, WantsInput, AsksInput}
 use Rattle.abc_session.specs.declared.serve.ServeStop.TheVariants as item
 use Rattle.abc_session.specs.declared.session.SessionStop.{SessionStop}
 use Rattle.abc_session.specs.declared.session.SessionStop.TheVariants as session
