@@ -1,0 +1,5 @@
+pub mod Absent
+pub mod Applying
+pub mod Listing
+pub mod Merging
+pub mod Turning

@@ -1,0 +1,10 @@
+mod Saying
+mod Stops
+mod Broken
+mod Items
+mod Told
+mod TurnsServed
+mod Places
+mod Turns
+mod Runs
+mod Summing

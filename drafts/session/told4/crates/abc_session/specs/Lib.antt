@@ -1,0 +1,9 @@
+-- What a session reads, says and keeps.
+pub mod Product
+pub mod Session
+pub mod Told
+pub mod Place
+pub mod Serving
+pub mod Settled
+pub mod Run
+pub mod Status
