@@ -1,5 +1,0 @@
-pub mod Absent
-pub mod Applying
-pub mod Listing
-pub mod Merging
-pub mod Turning

@@ -1,3 +1,0 @@
-pub mod inner
-pub mod Maps
-pub mod View

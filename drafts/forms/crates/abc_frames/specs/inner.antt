@@ -1,2 +1,0 @@
--- Steps of the code, in words that no public clause uses.
-pub mod Merging

@@ -1,9 +1,0 @@
--- What a session reads, says and keeps.
-pub mod Product
-pub mod Session
-pub mod Told
-pub mod Place
-pub mod Serving
-pub mod Settled
-pub mod Run
-pub mod Status
