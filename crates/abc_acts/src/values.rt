@@ -43,7 +43,7 @@ pub fn there(value: Option<Value>) -> Result<Value, Halt>
     }
 }
 
-/// Whether a value has some type. It is gone through once.
+/// Whether a value has some type. A step where the forms of its parts are kept, as in lists and tables.
 pub fn has_type(alloc: Global, value: &Value) -> Result<bool, OutOfMemory>
     ensures { IfOk result (λ b. b ≡ has_type value.now) }
 {
@@ -62,7 +62,7 @@ fn have_types(alloc: Global, values: &[Value]) -> Result<bool, OutOfMemory>
     Ok(true)
 }
 
-/// Whether some types fit a table and a key. Both are gone through once.
+/// Whether some types fit a table and a key. A step for each, since a table keeps the forms of its keys.
 pub(crate) fn fits_key(alloc: Global, table: &Value, key: &Value) -> Result<bool, OutOfMemory>
     ensures computed { IfOk result (λ b. b ≡ fits_table table.now key.now (Some anything)) }
     ensures table { IfOk result (λ b. IsTrue b → IsTable table.now) }

@@ -17,6 +17,3 @@ pub use checker::Checker;
 pub use fault::CheckFault;
 pub use laws::{fewer_lines_stay_typable, nodes_are_called};
 pub use types::UnitTypes;
-
-#[cfg(test)]
-mod tests;

@@ -1,8 +1,7 @@
 -- The simple command that tokens say is the one that is computed for them.
-use Rattle.std.proofs.Common.{◌≡◌, ℕ, zero, suc, Bool, true, false, List, [], ◌∷◌, ◌++◌, length, Option, Some, None, refl, ap, sym, ◌∙◌, subst, ◌⊎◌, inl, inr}
+use Rattle.std.proofs.Common.{◌≡◌, ℕ, suc, Bool, true, false, List, [], ◌∷◌, ◌++◌, length, Option, Some, None, refl, ap, sym, ◌∙◌, subst, ◌⊎◌, inl, inr}
 use Rattle.std.specs.Prelude.{◌↔◌, option_map, option_and_then, is_some, codes, if◌then◌else◌}
 use Rattle.std.proofs.lemmas.Option.{same_Some}
-use Rattle.std.proofs.lemmas.List.{append-nil}
 use Rattle.abc_num.specs.declared.limits.TheConstants.{MOST_BRACKETS}
 use Rattle.abc_tokens.specs.Shape.{is_reserved}
 use Rattle.abc_value.specs.Tree.{Tree}
@@ -18,7 +17,7 @@ use Rattle.abc_expressions.specs.declared.lexemes.Lexeme.{Lexeme}
 use Rattle.abc_expressions.specs.declared.lexemes.Lexeme.TheVariants as t
 use Rattle.abc_expressions.specs.Addresses.{SpelledAddress}
 use Rattle.abc_expressions.specs.Grammar.{Spells, Spelled}
-use Rattle.abc_expressions.specs.Readings.{expression_of, single_of, address_of}
+use Rattle.abc_expressions.specs.Readings.{expression_of, address_of}
 use Rattle.abc_formula.specs.TestGrammar.{Tests}
 use Rattle.abc_formula.specs.TestReadings.{test_of}
 use Rattle.abc_formula.specs.declared.test_frames.Place.TheVariants as place
@@ -26,9 +25,9 @@ use Rattle.abc_clauses.specs.declared.words.Verb.{Verb}
 use Rattle.abc_clauses.specs.declared.words.Verb.TheVariants as verb
 use Rattle.abc_clauses.specs.Cuts.{Cut, cut_at, bytes_behind}
 use Rattle.abc_clauses.specs.Names.{Kinds, lone_names_refine}
-use Rattle.abc_clauses.specs.Readings.{both, only_if, of_cut, if_alone, VERBS, verb_of, write_of, placed_of, example_of, read_example_of, read_raw_of, read_by, read_of, words_of, call_of, settled_test, by_verb, simple_by, simple_of, beside_of}
+use Rattle.abc_clauses.specs.Readings.{both, only_if, of_cut, if_alone, VERBS, verb_of, placed_of, example_of, read_example_of, read_raw_of, read_by, read_of, words_of, call_of, refined_test, by_verb, simple_by, simple_of, beside_of}
 use Rattle.abc_clauses.specs.Says as says
-use Rattle.abc_clauses.specs.Says.{slashes, SpellsLiteral, IsTest, SaysWords, SaysSimple, SaysBeside, command_template, calls_refinement}
+use Rattle.abc_clauses.specs.Says.{SpellsLiteral, IsTest, SaysSimple, SaysBeside, command_template, calls_refinement}
 use Rattle.abc_clauses.proofs.Found.{both_told, map_told, only_told, only_found, alone_told, cut_of, if_told, unless_told, word_of}
 use Rattle.abc_clauses.proofs.Spans.{spelled_plain, address_plain, spelled_begins, spelled_ends}
 use Rattle.abc_clauses.proofs.Cutting.{cut_found, cut_told, cut_none}
@@ -169,10 +168,10 @@ module _ (own : List (List ℕ)) (laws : Laws own) where
 
   -- ---- tests
 
-  pub test_found : (kinds : Kinds) (ts : List Lexeme) (test : Test) → IsTest own kinds test ts → settled_test own kinds ts ≡ Some test
+  pub test_found : (kinds : Kinds) (ts : List Lexeme) (test : Test) → IsTest own kinds test ts → refined_test own kinds ts ≡ Some test
   test_found kinds ts test (p, is) = only_found (lone_names_refine kinds) (test_of own ts) test ((laws.test ts test).0 p) is
 
-  pub test_told : (kinds : Kinds) (ts : List Lexeme) (test : Test) → settled_test own kinds ts ≡ Some test → IsTest own kinds test ts
+  pub test_told : (kinds : Kinds) (ts : List Lexeme) (test : Test) → refined_test own kinds ts ≡ Some test → IsTest own kinds test ts
   test_told kinds ts test h = let o = only_told (lone_names_refine kinds) (test_of own ts) test h in ((laws.test ts test).1 o.0, o.1)
 
 module _ (own : List (List ℕ)) (laws : Laws own) (kinds : Kinds) (commands : List (List ℕ)) (text : List ℕ) where
@@ -294,14 +293,14 @@ module _ (own : List (List ℕ)) (laws : Laws own) (kinds : Kinds) (commands : L
       let m = map_told (λ value. action.Return value) (expression_of own ts) node h in
       subst (λ node. Says (t.Keyword (codes "RETURN") ∷ ts) node) m.2 (says.return ((laws.expression ts m.0).1 m.1))
 
-  check_told : (ts : List Lexeme) (node : ActionNode) → option_map (λ test. action.Check test) (settled_test own kinds ts) ≡ Some node → Says (t.Keyword (codes "CHECK") ∷ ts) node
+  check_told : (ts : List Lexeme) (node : ActionNode) → option_map (λ test. action.Check test) (refined_test own kinds ts) ≡ Some node → Says (t.Keyword (codes "CHECK") ∷ ts) node
   check_told ts node h =
-      let m = map_told (λ test. action.Check test) (settled_test own kinds ts) node h in
+      let m = map_told (λ test. action.Check test) (refined_test own kinds ts) node h in
       subst (λ node. Says (t.Keyword (codes "CHECK") ∷ ts) node) m.2 (says.check (test_told own laws kinds ts m.0 m.1))
 
-  report_told : (ts : List Lexeme) (node : ActionNode) → option_map (λ test. action.Report test) (settled_test own kinds ts) ≡ Some node → Says (t.Keyword (codes "REPORT") ∷ ts) node
+  report_told : (ts : List Lexeme) (node : ActionNode) → option_map (λ test. action.Report test) (refined_test own kinds ts) ≡ Some node → Says (t.Keyword (codes "REPORT") ∷ ts) node
   report_told ts node h =
-      let m = map_told (λ test. action.Report test) (settled_test own kinds ts) node h in
+      let m = map_told (λ test. action.Report test) (refined_test own kinds ts) node h in
       subst (λ node. Says (t.Keyword (codes "REPORT") ∷ ts) node) m.2 (says.report (test_told own laws kinds ts m.0 m.1))
 
   lone_told : (x : List ℕ) (made : ActionNode) → Says (t.Keyword x ∷ []) made → (ts : List Lexeme) (node : ActionNode) → if_alone made ts ≡ Some node → Says (t.Keyword x ∷ ts) node

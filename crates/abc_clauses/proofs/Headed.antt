@@ -1,18 +1,16 @@
 -- Nothing is said where nothing is found behind the colon.
 use Rattle.std.proofs.Common.{◌≡◌, List, Option, Some, None, refl, ap, ◌∙◌, ℕ}
-use Rattle.std.specs.Prelude.{Result, Err}
-use Rattle.std.specs.Option.{option_map}
+use Rattle.std.specs.Prelude.{Err}
 use Rattle.abc_tree.specs.declared.commands.ActionNode.{ActionNode}
 use Rattle.abc_expressions.specs.declared.fault.FormulaFault.{FormulaFault}
 use Rattle.abc_expressions.specs.declared.fault.FormulaFault.TheVariants as fault
 use Rattle.abc_expressions.specs.declared.lexemes.Lexeme.{Lexeme}
 use Rattle.abc_expressions.specs.Readings.{Answers, Tells}
 use Rattle.abc_clauses.specs.declared.clause.Head.{Head}
-use Rattle.abc_clauses.specs.declared.lines.Saying.{Saying}
 use Rattle.abc_clauses.specs.declared.words.Front.{Front}
 use Rattle.abc_clauses.specs.Cuts.{Cut, cut_at_colon}
 use Rattle.abc_clauses.specs.Names.{Kinds}
-use Rattle.abc_clauses.specs.Readings.{both, of_cut, head_by, beside_of, headed, Said}
+use Rattle.abc_clauses.specs.Readings.{both, of_cut, head_by, beside_of, headed}
 use Rattle.abc_clauses.specs.inner.Views.{seen_saying}
 
 none_behind : {X Y Z : Type 0} (f : X → Y → Z) (a : Option X) → both f a None ≡ None

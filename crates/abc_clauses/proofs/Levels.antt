@@ -1,6 +1,6 @@
 -- In the tokens of an expression, a test and names each bracket closes again, and no colon stands outside them.
-use Rattle.std.proofs.Common.{◌≡◌, ℕ, zero, suc, Bool, true, false, List, [], ◌∷◌, ◌++◌, length, Option, Some, None, refl, ap, sym, ◌∙◌}
-use Rattle.std.specs.Prelude.{◌&&◌, codes, option_map, if◌then◌else◌}
+use Rattle.std.proofs.Common.{◌≡◌, ℕ, suc, true, List, [], ◌∷◌, Option, Some, None, refl, ◌∙◌}
+use Rattle.std.specs.Prelude.{◌&&◌, codes, if◌then◌else◌}
 use Rattle.abc_tree.specs.declared.formulas.Bound.{Bound}
 use Rattle.abc_tree.specs.declared.formulas.Expr.{Expr}
 use Rattle.abc_tree.specs.declared.formulas.Fill.{Fill}
@@ -17,12 +17,12 @@ use Rattle.abc_expressions.specs.declared.signs.Sign.{Sign}
 use Rattle.abc_expressions.specs.declared.signs.Sign.TheVariants as s
 use Rattle.abc_expressions.specs.Operators.{lead, sign_lead, infix_of, sign_infix}
 use Rattle.abc_expressions.specs.Grammar as c
-use Rattle.abc_expressions.specs.Grammar.{Spells, Parts, Filler, Fills, Entry, Pairs, Spelled}
+use Rattle.abc_expressions.specs.Grammar.{Spells, Parts, Filler, Fills, Entry, Pairs}
 use Rattle.abc_formula.specs.declared.test_frames.Place.{Place}
 use Rattle.abc_formula.specs.BoundFronts.{IsBoundFront, IsFormalFront}
 use Rattle.abc_formula.specs.TestGrammar as g
 use Rattle.abc_formula.specs.TestGrammar.{is_keyword, quantifier_of, relation_of, relation_by, membership_of, Binds, BindsPart, Relates, Tests, Parted}
-use Rattle.abc_clauses.specs.Cuts.{is_colon, is_outside, one_less, open_behind, colon_place}
+use Rattle.abc_clauses.specs.Cuts.{is_colon, is_outside, open_behind}
 
 -- how many brackets are open behind the tokens, where so many are in front and no colon stands outside them
 abbrev pub scan : ℕ → List Lexeme → Option ℕ

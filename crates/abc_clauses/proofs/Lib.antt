@@ -22,4 +22,4 @@ mod Layers
 mod SoundTokens
 mod CommandForms
 mod RegularLines
-mod Keys
+pub mod Keys

@@ -1,5 +1,5 @@
 -- What expressions are as literals, and lines that are none.
-use Rattle.std.proofs.Common.{◌≡◌, ℕ, Bool, true, false, List, [], ◌∷◌, map, Option, Some, None, refl, ap, sym, ◌∙◌, rules}
+use Rattle.std.proofs.Common.{◌≡◌, ℕ, true, false, List, [], ◌∷◌, map, Option, Some, None, refl, ap, ◌∙◌, rules}
 use Rattle.std.specs.Prelude.{◌&&◌, is_some}
 use Rattle.abc_value.specs.Tree.{Tree}
 use Rattle.abc_print.specs.Computed.{literal_of}

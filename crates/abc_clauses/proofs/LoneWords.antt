@@ -1,5 +1,5 @@
 -- A keyword alone is no test.
-use Rattle.std.proofs.Common.{◌≡◌, ℕ, Bool, true, false, List, [], ◌∷◌, Some, refl}
+use Rattle.std.proofs.Common.{◌≡◌, ℕ, true, false, List, [], ◌∷◌, Some, refl}
 use Rattle.abc_tree.specs.declared.formulas.Bound.{Bound}
 use Rattle.abc_tree.specs.declared.formulas.Expr.{Expr}
 use Rattle.abc_tree.specs.declared.formulas.Test.{Test}

@@ -1,5 +1,5 @@
 -- What a line says is what is computed for its tokens.
-use Rattle.std.proofs.Common.{◌≡◌, ℕ, suc, Bool, true, false, List, [], ◌∷◌, ◌++◌, length, Option, Some, None, refl, ap, sym, ◌∙◌, subst}
+use Rattle.std.proofs.Common.{◌≡◌, ℕ, Bool, true, false, List, [], ◌∷◌, ◌++◌, Option, Some, None, refl, ap, sym, ◌∙◌, subst}
 use Rattle.std.specs.Prelude.{◌&&◌, option_map, codes, if◌then◌else◌}
 use Rattle.std.proofs.lemmas.Option.{same_Some}
 use Rattle.abc_num.specs.Text.{text_eq}
@@ -17,20 +17,20 @@ use Rattle.abc_expressions.specs.declared.signs.Sign.{Sign}
 use Rattle.abc_expressions.specs.declared.signs.Sign.TheVariants as s
 use Rattle.abc_expressions.specs.Grammar.{Spells}
 use Rattle.abc_expressions.specs.Readings.{single_of}
-use Rattle.abc_formula.specs.BoundFronts.{IsBoundFront, IsFormalFront}
+use Rattle.abc_formula.specs.BoundFronts.{IsBoundFront}
 use Rattle.abc_clauses.specs.declared.clause.Head.{Head}
 use Rattle.abc_clauses.specs.declared.clause.Head.TheVariants as head
 use Rattle.abc_clauses.specs.declared.words.Front.{Front}
 use Rattle.abc_clauses.specs.declared.words.Front.TheVariants as front
 use Rattle.abc_clauses.specs.declared.words.Opening.{Opening}
 use Rattle.abc_clauses.specs.declared.words.Opening.TheVariants as opens
-use Rattle.abc_clauses.specs.Cuts.{Cut, cut_at_colon, open_behind}
+use Rattle.abc_clauses.specs.Cuts.{cut_at_colon}
 use Rattle.abc_clauses.specs.Names.{Kinds}
-use Rattle.abc_clauses.specs.Readings.{Said, both, of_cut, if_alone, OPENINGS, opening_of, train_of, bound_of, pattern_of, shared_of, settled_test, beside_of, simple_of, way_of, refinement_head, head_by, headed, select_of, stray_of, by_opening, command_by_word, said_command, said_alternative, said_heading, said_refinement}
+use Rattle.abc_clauses.specs.Readings.{Said, both, of_cut, OPENINGS, opening_of, train_of, bound_of, pattern_of, shared_of, refined_test, beside_of, simple_of, way_of, refinement_head, head_by, headed, select_of, stray_of, by_opening, command_by_word, said_command, said_alternative, said_heading, said_refinement}
 use Rattle.abc_clauses.specs.Says as says
-use Rattle.abc_clauses.specs.Says.{IsTest, Shares, SaysPlaces, SaysFunction, SaysPattern, SaysSimple, SaysBeside, SaysCommand, SaysAlternative, SaysHeading, SaysRefinement}
-use Rattle.abc_clauses.proofs.Found.{both_told, map_told, alone_told, cut_of, if_told, unless_told, word_of}
-use Rattle.abc_clauses.proofs.Levels.{scan, IsLevel, test_level, train_level, formal_level}
+use Rattle.abc_clauses.specs.Says.{Shares, SaysPlaces, SaysFunction, SaysPattern, SaysBeside, SaysCommand, SaysAlternative, SaysHeading, SaysRefinement}
+use Rattle.abc_clauses.proofs.Found.{both_told, map_told, cut_of, if_told, unless_told, word_of}
+use Rattle.abc_clauses.proofs.Levels.{IsLevel, test_level, train_level, formal_level}
 use Rattle.abc_clauses.proofs.Cutting.{colon_found, colon_told}
 use Rattle.abc_clauses.proofs.Fronts.{bound_found, bound_told}
 use Rattle.abc_clauses.proofs.Titles.{pattern_found, pattern_told}
@@ -181,13 +181,13 @@ module _ (own : List (List ℕ)) (laws : Laws own) (kinds : Kinds) (commands : L
 
   if_line : (ts : List Lexeme) (said : Said) → IsHeaded front.If ts said → Says (t.Keyword (codes "IF") ∷ ts) said
   if_line ts said i =
-      let m = map_told (λ test. head.If test) (settled_test own kinds i.front) said.0 i.head in
+      let m = map_told (λ test. head.If test) (refined_test own kinds i.front) said.0 i.head in
       subst (λ h. SaysCommand own kinds commands text (t.Keyword (codes "IF") ∷ ts) h said.1) m.2
       (says.branch (ap (λ us. t.Keyword (codes "IF") ∷ us) i.all) (test_told own laws kinds i.front m.0 m.1) i.beside)
 
   while_line : (ts : List Lexeme) (said : Said) → IsHeaded front.While ts said → Says (t.Keyword (codes "WHILE") ∷ ts) said
   while_line ts said i =
-      let m = map_told (λ test. head.While test) (settled_test own kinds i.front) said.0 i.head in
+      let m = map_told (λ test. head.While test) (refined_test own kinds i.front) said.0 i.head in
       subst (λ h. SaysCommand own kinds commands text (t.Keyword (codes "WHILE") ∷ ts) h said.1) m.2
       (says.while (ap (λ us. t.Keyword (codes "WHILE") ∷ us) i.all) (test_told own laws kinds i.front m.0 m.1) i.beside)
 
@@ -252,7 +252,7 @@ module _ (own : List (List ℕ)) (laws : Laws own) (kinds : Kinds) (commands : L
 
   -- ---- alternatives
 
-  way_found : (us : List Lexeme) (test : Test) → settled_test own kinds us ≡ Some test → way_of own kinds us ≡ Some (head.When test)
+  way_found : (us : List Lexeme) (test : Test) → refined_test own kinds us ≡ Some test → way_of own kinds us ≡ Some (head.When test)
   way_found (t.Keyword x ∷ []) test h = absurd (no_test (test_told own laws kinds (t.Keyword x ∷ []) test h).0)
   way_found [] test h = ap (option_map (λ test. head.When test)) h
   way_found (t.Keyword x ∷ token ∷ us) test h = ap (option_map (λ test. head.When test)) h
@@ -272,10 +272,10 @@ module _ (own : List (List ℕ)) (laws : Laws own) (kinds : Kinds) (commands : L
       ∙ headed_found front.Alternative us vs (head.When test) beside (test_level p.0) (way_found us test (test_found own laws kinds us test p)) q
   alternative_found (says.otherwise {beside = beside} {behind = vs} q) = headed_found front.Alternative (t.Keyword (codes "ELSE") ∷ []) vs head.Otherwise beside refl refl q
 
-  when_told : (us vs : List Lexeme) (beside : Option ActionNode) (h : Head) → option_map (λ test. head.When test) (settled_test own kinds us) ≡ Some h → SaysBeside own kinds commands text vs beside
+  when_told : (us vs : List Lexeme) (beside : Option ActionNode) (h : Head) → option_map (λ test. head.When test) (refined_test own kinds us) ≡ Some h → SaysBeside own kinds commands text vs beside
       → SaysAlternative own kinds commands text (us ++ t.Sign s.Colon ∷ vs) h beside
   when_told us vs beside h e q =
-      let m = map_told (λ test. head.When test) (settled_test own kinds us) h e in
+      let m = map_told (λ test. head.When test) (refined_test own kinds us) h e in
       subst (λ h. SaysAlternative own kinds commands text (us ++ t.Sign s.Colon ∷ vs) h beside) m.2 (says.when refl (test_told own laws kinds us m.0 m.1) q)
 
   way_told : (us vs : List Lexeme) (beside : Option ActionNode) (h : Head) → way_of own kinds us ≡ Some h → SaysBeside own kinds commands text vs beside

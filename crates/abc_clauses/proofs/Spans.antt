@@ -1,5 +1,5 @@
 -- The tokens of an expression and of an address: no keyword is among them, and neither the first nor the last is a slash.
-use Rattle.std.proofs.Common.{◌≡◌, ℕ, suc, Bool, true, false, List, [], ◌∷◌, ◌++◌, Option, Some, None, refl, ap, sym, ◌∙◌}
+use Rattle.std.proofs.Common.{◌≡◌, ℕ, Bool, true, false, List, [], ◌∷◌, ◌++◌, Some, refl, ap, sym, ◌∙◌}
 use Rattle.std.proofs.lemmas.List.{append_assoc}
 use Rattle.abc_tree.specs.declared.formulas.Expr.{Expr}
 use Rattle.abc_tree.specs.declared.formulas.Fill.{Fill}
@@ -10,7 +10,7 @@ use Rattle.abc_expressions.specs.declared.lexemes.Lexeme.{Lexeme}
 use Rattle.abc_expressions.specs.declared.lexemes.Lexeme.TheVariants as t
 use Rattle.abc_expressions.specs.declared.signs.Sign.{Sign}
 use Rattle.abc_expressions.specs.declared.signs.Sign.TheVariants as s
-use Rattle.abc_expressions.specs.Operators.{lead, sign_lead, infix_of}
+use Rattle.abc_expressions.specs.Operators.{lead, infix_of}
 use Rattle.abc_expressions.specs.Grammar as c
 use Rattle.abc_expressions.specs.Grammar.{Spells, Parts, Filler, Fills, Entry, Pairs, Spelled}
 use Rattle.abc_expressions.specs.Addresses as a

@@ -1,6 +1,6 @@
 -- The heading of a unit is the one that is computed for its tokens.
 use Rattle.std.proofs.Common.{◌≡◌, ℕ, Bool, true, false, List, [], ◌∷◌, ◌++◌, length, Option, Some, None, refl, ap, sym, ◌∙◌, subst}
-use Rattle.std.specs.Prelude.{◌↔◌, option_map, codes, if◌then◌else◌}
+use Rattle.std.specs.Prelude.{option_map, codes, if◌then◌else◌}
 use Rattle.std.proofs.lemmas.Option.{same_Some}
 use Rattle.abc_num.specs.Text.{text_eq}
 use Rattle.abc_num.proofs.Texts.{text_eq-Decides}
@@ -18,7 +18,7 @@ use Rattle.abc_expressions.specs.declared.lexemes.Lexeme.TheVariants as t
 use Rattle.abc_expressions.specs.Operators.{kind_of, nullary, unary, binary}
 use Rattle.abc_formula.specs.BoundFronts.{IsFormalFront}
 use Rattle.abc_formula.specs.TestGrammar.{predicate, one_name}
-use Rattle.abc_clauses.specs.Readings.{both, if_alone, formal_place, place_of, places_of, command_by, formal_of, last_formal, before_of, between_name, between_by, between_of, named_of, function_of, pattern_by, pattern_of}
+use Rattle.abc_clauses.specs.Readings.{both, formal_place, place_of, places_of, command_by, formal_of, last_formal, before_of, between_name, between_by, between_of, named_of, function_of, pattern_by, pattern_of}
 use Rattle.abc_clauses.specs.Says as says
 use Rattle.abc_clauses.specs.Says.{SaysPlaces, SaysFunction, SaysPattern, command_template, ends_place}
 use Rattle.abc_clauses.proofs.Found.{both_told, map_told, alone_told, if_told, unless_told}

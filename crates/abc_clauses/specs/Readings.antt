@@ -1,5 +1,5 @@
 -- What a line says, computed. The laws `computed_..` say that exactly what is said is found.
-use Rattle.std.specs.Prelude.{◌≡◌, ℕ, zero, suc, ◌-◌, ◌+◌, ◌&&◌, ◌==◌, Bool, true, false, List, [], ◌∷◌, ◌++◌, length, take, drop, reverse, Option, Some, None, option_map, option_and_then, is_some, codes, if◌then◌else◌}
+use Rattle.std.specs.Prelude.{ℕ, zero, suc, ◌-◌, ◌+◌, ◌&&◌, Bool, true, false, List, [], ◌∷◌, ◌++◌, length, take, drop, reverse, Option, Some, None, option_map, option_and_then, is_some, codes, if◌then◌else◌}
 use Rattle.abc_num.specs.Text.{text_eq}
 use Rattle.abc_num.specs.declared.limits.TheConstants.{MOST_LINE_BYTES}
 use Rattle.abc_tokens.specs.Shape.{is_reserved}
@@ -21,7 +21,7 @@ use Rattle.abc_expressions.specs.declared.lexemes.Lexeme.TheVariants as t
 use Rattle.abc_expressions.specs.declared.signs.Sign.TheVariants as s
 use Rattle.abc_expressions.specs.Operators.{kind_of, nullary, unary, binary}
 use Rattle.abc_expressions.specs.Readings.{expression_of, single_of, address_of}
-use Rattle.abc_formula.specs.TestGrammar.{is_keyword, predicate}
+use Rattle.abc_formula.specs.TestGrammar.{predicate}
 use Rattle.abc_formula.specs.TestReadings.{test_of}
 use Rattle.abc_formula.specs.declared.test_frames.NamesEnd.TheVariants as end
 use Rattle.abc_formula.specs.inner.TestMachine.{names_in, gathered_found, formal_in}
@@ -35,7 +35,7 @@ use Rattle.abc_clauses.specs.declared.words.Front.TheVariants as front
 use Rattle.abc_clauses.specs.declared.words.Opening.{Opening}
 use Rattle.abc_clauses.specs.declared.words.Opening.TheVariants as opens
 use Rattle.abc_clauses.specs.Cuts.{Cut, cut_at, cut_at_colon, count_slashes, Chunk, key, stretch, chunks_of, bytes_behind}
-use Rattle.abc_clauses.specs.Names.{Kinds, is_refinement, lone_names_refine}
+use Rattle.abc_clauses.specs.Names.{Kinds, lone_names_refine}
 use Rattle.abc_clauses.specs.Says.{command_template, calls_refinement, ends_place}
 
 -- ---- several readings together
@@ -254,18 +254,18 @@ select_of _ = None
 
 module _ (own : List (List ℕ)) (kinds : Kinds) where
   -- a test, in which each lone own name is a refinement
-  abbrev pub settled_test : List Lexeme → Option Test
-  settled_test ts = only_if (lone_names_refine kinds) (test_of own ts)
+  abbrev pub refined_test : List Lexeme → Option Test
+  refined_test ts = only_if (lone_names_refine kinds) (test_of own ts)
 
   -- ELSE alone, or a test
   abbrev pub way_of : List Lexeme → Option Head
   way_of (t.Keyword x ∷ []) = if text_eq x (codes "ELSE") then Some head.Otherwise else None
-  way_of ts = option_map (λ test. head.When test) (settled_test ts)
+  way_of ts = option_map (λ test. head.When test) (refined_test ts)
 
   -- what stands before the colon
   abbrev pub head_by : Front → List Lexeme → Option Head
-  head_by front.If ts = option_map (λ test. head.If test) (settled_test ts)
-  head_by front.While ts = option_map (λ test. head.While test) (settled_test ts)
+  head_by front.If ts = option_map (λ test. head.If test) (refined_test ts)
+  head_by front.While ts = option_map (λ test. head.While test) (refined_test ts)
   head_by front.For ts = train_of own (bound_of own ts)
   head_by front.Alternative ts = way_of ts
   head_by front.Unit ts = option_map (λ read. head.Unit read.0 read.1) (pattern_of own ts)
@@ -279,11 +279,11 @@ by_verb own kinds text verb.Insert ts = placed_of own (codes "IN") (λ value add
 by_verb own kinds text verb.Remove ts = placed_of own (codes "FROM") (λ value address. action.Remove value address) ts
 by_verb own kinds text verb.Delete ts = option_map (λ address. action.Delete address) (address_of own ts)
 by_verb own kinds text verb.Read ts = read_of own text ts
-by_verb own kinds text verb.Check ts = option_map (λ test. action.Check test) (settled_test own kinds ts)
+by_verb own kinds text verb.Check ts = option_map (λ test. action.Check test) (refined_test own kinds ts)
 by_verb own kinds text verb.Pass ts = if_alone action.Pass ts
 by_verb own kinds text verb.Quit ts = if_alone action.Quit ts
 by_verb own kinds text verb.Return ts = option_map (λ value. action.Return value) (expression_of own ts)
-by_verb own kinds text verb.Report ts = option_map (λ test. action.Report test) (settled_test own kinds ts)
+by_verb own kinds text verb.Report ts = option_map (λ test. action.Report test) (refined_test own kinds ts)
 by_verb own kinds text verb.Succeed ts = if_alone action.Succeed ts
 by_verb own kinds text verb.Fail ts = if_alone action.Fail ts
 

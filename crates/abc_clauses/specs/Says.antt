@@ -25,7 +25,6 @@ use Rattle.abc_expressions.specs.Operators.{kind_of, nullary, unary, binary}
 use Rattle.abc_formula.specs.BoundFronts.{IsBoundFront, IsFormalFront}
 use Rattle.abc_formula.specs.TestGrammar.{predicate, Tests}
 use Rattle.abc_formula.specs.declared.test_frames.Place.TheVariants as place
-use Rattle.abc_clauses.specs.declared.clause.Clause.{Clause}
 use Rattle.abc_clauses.specs.declared.clause.Head.{Head}
 use Rattle.abc_clauses.specs.declared.clause.Head.TheVariants as head
 use Rattle.abc_clauses.specs.Cuts.{bytes_behind}

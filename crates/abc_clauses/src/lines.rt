@@ -3,13 +3,13 @@ ghost use Rattle.std.specs.Prelude.{◌≡◌, ◌≤◌, Option, None, IfOk, Al
 ghost use Rattle.abc_num.specs.declared.limits.TheConstants.{MOST_LINE_BYTES};
 ghost use Rattle.abc_expressions.specs.Lexemes.{IsSpelled};
 ghost use Rattle.abc_expressions.specs.Readings.{Answers, Tells};
-ghost use Rattle.abc_clauses.specs.Readings.{Said, clause_at, by_opening, head_by, headed, pattern_of, refinement_head, settled_test, simple_of, said_alternative, said_command, said_heading, said_refinement, select_of, shared_of, stray_of, train_of, bound_of, way_of, command_of, alternative_of, heading_of, refinement_of};
+ghost use Rattle.abc_clauses.specs.Readings.{Said, clause_at, by_opening, head_by, headed, pattern_of, refinement_head, refined_test, simple_of, said_alternative, said_command, said_heading, said_refinement, select_of, shared_of, stray_of, train_of, bound_of, way_of, command_of, alternative_of, heading_of, refinement_of};
 ghost use Rattle.abc_clauses.specs.inner.Views.{is_comma, seen_saying};
 
 use crate::clause::{Clause, Head};
 use crate::cuts::cut_at_colon;
 use crate::headings::{bound, pattern};
-use crate::simple::{beside, settled_test, simple};
+use crate::simple::{beside, refined_test, simple};
 use crate::words::{Front, Opening, opening_of};
 use abc_expressions::{Lexeme, Sign, single_expression};
 use abc_formula::FormulaFault;
@@ -88,7 +88,7 @@ fn way(
             Err(FormulaFault::BadCommand)
         };
     }
-    Ok(Head::When(settled_test(alloc, own, kinds, tokens)?))
+    Ok(Head::When(refined_test(alloc, own, kinds, tokens)?))
 }
 
 /// The name of a refinement: a name, or a keyword that isn't reserved.
@@ -122,9 +122,9 @@ fn if_head(
     tokens: &[Lexeme],
 ) -> Result<Head, FormulaFault>
     requires { All IsSpelled tokens.now }
-    ensures { Answers result (option_map (λ test. Head.If test) (settled_test own.now kinds.now tokens.now)) }
+    ensures { Answers result (option_map (λ test. Head.If test) (refined_test own.now kinds.now tokens.now)) }
 {
-    Ok(Head::If(settled_test(alloc, own, kinds, tokens)?))
+    Ok(Head::If(refined_test(alloc, own, kinds, tokens)?))
 }
 
 fn while_head(
@@ -134,9 +134,9 @@ fn while_head(
     tokens: &[Lexeme],
 ) -> Result<Head, FormulaFault>
     requires { All IsSpelled tokens.now }
-    ensures { Answers result (option_map (λ test. Head.While test) (settled_test own.now kinds.now tokens.now)) }
+    ensures { Answers result (option_map (λ test. Head.While test) (refined_test own.now kinds.now tokens.now)) }
 {
-    Ok(Head::While(settled_test(alloc, own, kinds, tokens)?))
+    Ok(Head::While(refined_test(alloc, own, kinds, tokens)?))
 }
 
 /// What stands before the colon.

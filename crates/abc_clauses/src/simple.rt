@@ -5,7 +5,7 @@ ghost use Rattle.abc_tree.specs.declared.commands.ActionNode.TheVariants as acti
 ghost use Rattle.abc_expressions.specs.Lexemes.{IsSpelled};
 ghost use Rattle.abc_expressions.specs.Readings.{Answers, address_of, expression_of};
 ghost use Rattle.abc_clauses.specs.Names.{lone_names_refine, refinement_at};
-ghost use Rattle.abc_clauses.specs.Readings.{by_verb, example_of, only_if, placed_of, read_by, read_example_of, read_of, read_raw_of, settled_test, simple_of, write_of, written_by, written_lines, written_with, beside_of, of_cut};
+ghost use Rattle.abc_clauses.specs.Readings.{by_verb, example_of, only_if, placed_of, read_by, read_example_of, read_of, read_raw_of, refined_test, simple_of, write_of, written_by, written_lines, written_with, beside_of, of_cut};
 ghost use Rattle.abc_clauses.specs.Cuts.{bytes_behind, cut_at};
 
 use crate::calls::call;
@@ -258,14 +258,14 @@ fn lone_names_refine(kinds: &[Option<RefinementKind>], test: &Test) -> bool
 }
 
 /// The test that the tokens are, in which each lone own name is a refinement.
-pub(crate) fn settled_test(
+pub(crate) fn refined_test(
     alloc: Global,
     own: &Names,
     kinds: &[Option<RefinementKind>],
     tokens: &[Lexeme],
 ) -> Result<Test, FormulaFault>
     requires { All IsSpelled tokens.now }
-    ensures { Answers result (settled_test own.now kinds.now tokens.now) }
+    ensures { Answers result (refined_test own.now kinds.now tokens.now) }
 {
     let test = whole_test(alloc, own, tokens)?;
     if lone_names_refine(kinds, &test) {
@@ -283,9 +283,9 @@ fn check(
     tokens: &[Lexeme],
 ) -> Result<ActionNode, FormulaFault>
     requires { All IsSpelled tokens.now }
-    ensures { Answers result (option_map (λ test. action.Check test) (settled_test own.now kinds.now tokens.now)) }
+    ensures { Answers result (option_map (λ test. action.Check test) (refined_test own.now kinds.now tokens.now)) }
 {
-    Ok(ActionNode::Check(settled_test(alloc, own, kinds, tokens)?))
+    Ok(ActionNode::Check(refined_test(alloc, own, kinds, tokens)?))
 }
 
 fn report(
@@ -295,9 +295,9 @@ fn report(
     tokens: &[Lexeme],
 ) -> Result<ActionNode, FormulaFault>
     requires { All IsSpelled tokens.now }
-    ensures { Answers result (option_map (λ test. action.Report test) (settled_test own.now kinds.now tokens.now)) }
+    ensures { Answers result (option_map (λ test. action.Report test) (refined_test own.now kinds.now tokens.now)) }
 {
-    Ok(ActionNode::Report(settled_test(alloc, own, kinds, tokens)?))
+    Ok(ActionNode::Report(refined_test(alloc, own, kinds, tokens)?))
 }
 
 /// RETURN, behind which a value stands.

@@ -1,4 +1,4 @@
--- Steps of the code, in words that no public clause uses.
+-- Steps of the code. Of public clauses `later` uses `IsLater`, and abc_principal and abc_check use `TargetsMade`.
 pub mod Drafts
 pub mod Graphs
 pub mod Leads

@@ -1,4 +1,3 @@
 -- Lemmas on runs.
 pub mod Asking
-pub mod Settling
-mod Examples
+pub mod PuttingBack

@@ -1,3 +1,2 @@
 -- Steps of the code, in words that no public clause uses.
 pub mod Coming
-pub mod Example

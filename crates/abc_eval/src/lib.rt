@@ -7,6 +7,3 @@ mod running;
 pub use abc_machine::RunStop;
 pub use outcome::Outcome;
 pub use running::{Ran, run_item};
-
-#[cfg(test)]
-mod tests;

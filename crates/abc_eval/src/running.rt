@@ -12,7 +12,7 @@ ghost use Rattle.abc_sound.specs.Checked.{IsNeverWrong};
 ghost use Rattle.abc_machine.specs.Outcomes.{HasMemory as EndHasMemory};
 ghost use Rattle.abc_eval.specs.Runs.{HasMemory, IsAccepted, IsRun, WantsLine, WantsThere};
 ghost use Rattle.abc_machine.specs.Machine.{IsBusy, IsOf, pending, state_within};
-ghost use Rattle.abc_eval.specs.inner.Coming.{Comes, Ends, end_as, settled};
+ghost use Rattle.abc_eval.specs.inner.Coming.{Comes, Ends, end_as, targets_after};
 
 use crate::Outcome;
 use abc_frames::{Kept, Targets};
@@ -35,7 +35,7 @@ pub struct Ran {
 /// Runs an immediate command that was accepted, which may take so many steps. It is never wrong, and the targets stay typable with the
 /// units. After a fault and after an error the targets are as before; lines that were taken stay taken. The targets are copied once,
 /// before the first step.
-#[tactic(auto, using(crate::proofs::Settling::settled_run))]
+#[tactic(auto, using(crate::proofs::PuttingBack::run_after))]
 pub fn run_item<L: Lines>(
     alloc: Global,
     c: &Command,
@@ -67,7 +67,7 @@ pub fn run_item<L: Lines>(
         Err(_) => return Err(RunStop::Memory),
     };
     let answer = run(alloc, c, units, targets, lines, steps);
-    settle(targets, before, &answer);
+    put_back_unless_done(targets, before, &answer);
     answer
 }
 
@@ -165,8 +165,8 @@ fn ended(machine: Machine<'_>, end: End) -> Result<Ran, RunStop>
 }
 
 /// The targets go back to those from before, unless the run came to its end.
-fn settle(targets: &mut Targets, before: Kept, answer: &Result<Ran, RunStop>)
-    ensures { targets.new ≡ settled answer.now before targets.old }
+fn put_back_unless_done(targets: &mut Targets, before: Kept, answer: &Result<Ran, RunStop>)
+    ensures { targets.new ≡ targets_after answer.now before targets.old }
 {
     match answer {
         Ok(ran) => match ran.outcome {

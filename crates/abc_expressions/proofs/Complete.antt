@@ -22,8 +22,8 @@ use Rattle.abc_expressions.specs.declared.frames.Operand.{Operand}
 use Rattle.abc_expressions.specs.declared.frames.Operand.TheVariants as o
 use Rattle.abc_expressions.specs.declared.frames.Reach.{Reach}
 use Rattle.abc_expressions.specs.declared.frames.Reach.TheVariants as r
-use Rattle.abc_expressions.specs.declared.frames.Settled.{Settled}
-use Rattle.abc_expressions.specs.declared.frames.Settled.TheVariants as done
+use Rattle.abc_expressions.specs.declared.frames.AfterPart.{AfterPart}
+use Rattle.abc_expressions.specs.declared.frames.AfterPart.TheVariants as done
 use Rattle.abc_expressions.specs.declared.frames.Turn.TheVariants as turn
 use Rattle.abc_expressions.specs.declared.signs.Sign.{Sign}
 use Rattle.abc_expressions.specs.declared.signs.Sign.TheVariants as s
@@ -33,7 +33,7 @@ use Rattle.abc_expressions.specs.Lexemes.{seen}
 use Rattle.abc_expressions.specs.declared.lexemes.Lexeme.TheVariants as t
 use Rattle.abc_expressions.specs.Operators.{kind_of, begins, lead_by, sign_lead, lead, infix_of, joined1, joined2}
 use Rattle.abc_expressions.specs.Grammar.{compound, paired, Spells, number, text, name, call, before, between, select, round, empty, list, table, Parts, one, more, Filler, single, range, Fills, one_fill, more_fills, Entry, entry, Pairs, one_pair, more_pairs, Pieces, none, characters, conversion, Spelled}
-use Rattle.abc_expressions.specs.inner.Machine.{Found, Next, Leaves, converter, reader, role_of, sign_operand, leaf_operand, operand, wanted, reach, within, taken, sign_of, settled, wholly, settles, popped, in_display, whole_found, finished, run, tree_of, alone, lexed, pieces_of, front_piece, converted_piece, text_of, text_by, number_of, read_tokens}
+use Rattle.abc_expressions.specs.inner.Machine.{Found, Next, Leaves, converter, reader, role_of, sign_operand, leaf_operand, operand, wanted, reach, within, taken, sign_of, after_part, wholly, go_on_after, popped, in_display, whole_found, finished, run, tree_of, alone, lexed, pieces_of, front_piece, converted_piece, text_of, text_by, number_of, read_tokens}
 use Rattle.abc_tokens.proofs.Faults.{OneReading}
 use Rattle.abc_expressions.proofs.Levels.{Shaped, HasShape, shaped, reach_joins, grasp, Follows, follows_more, follows_right, same_level, stop_between, stop_before}
 use Rattle.abc_expressions.proofs.NumberValues.{value_found as number_found}
@@ -84,66 +84,66 @@ follows_none : (x : Reach) (n : ℕ) → x ≡ r.Ends → grasp x ≤ n
 follows_none x n h = let e : grasp x ≡ 0 = ap grasp h in omega arith
 
 -- a token behind the last operand of a group that makes this of it
-group_ends : (leaves : Leaves) (own : List (List ℕ)) (token : Lexeme) (ts : List Lexeme) (d k : ℕ) (group : Group) (stack : List Frame) (a : Expr) (x : Settled)
-    → reach own token ≡ r.Ends → settled group (sign_of token) a ≡ x
-    → run leaves own (token ∷ ts) d (f.Inside k group ∷ stack) (turn.Has 1 1 a) ≡ settles x (run leaves own ts) d stack k (token ∷ ts)
+group_ends : (leaves : Leaves) (own : List (List ℕ)) (token : Lexeme) (ts : List Lexeme) (d k : ℕ) (group : Group) (stack : List Frame) (a : Expr) (x : AfterPart)
+    → reach own token ≡ r.Ends → after_part group (sign_of token) a ≡ x
+    → run leaves own (token ∷ ts) d (f.Inside k group ∷ stack) (turn.Has 1 1 a) ≡ go_on_after x (run leaves own ts) d stack k (token ∷ ts)
 unfolding run popped
 group_ends leaves own token ts d k group stack a x p q =
     ap (λ y. taken (within y 1 1) (run leaves own ts) d (f.Inside k group ∷ stack) 1 a (popped own token ts (run leaves own ts) d (f.Inside k group ∷ stack) a)) p
-    ∙ ap (λ y. settles y (run leaves own ts) d stack k (token ∷ ts)) q
+    ∙ ap (λ y. go_on_after y (run leaves own ts) d stack k (token ∷ ts)) q
 
 -- what comes of a group with all its parts, at the tokens behind them
-abbrev after : {X : Type 0} → Leaves → List (List ℕ) → (List X → Settled) → (List X → Option Expr) → ℕ → List X → ℕ → List Frame → List Lexeme → Found
+abbrev after : {X : Type 0} → Leaves → List (List ℕ) → (List X → AfterPart) → (List X → Option Expr) → ℕ → List X → ℕ → List Frame → List Lexeme → Found
 after leaves own closing whole k parts d stack [] = whole_found (whole parts)
-after leaves own closing whole k parts d stack (token ∷ ts) = settles (closing parts) (run leaves own ts) d stack k (token ∷ ts)
+after leaves own closing whole k parts d stack (token ∷ ts) = go_on_after (closing parts) (run leaves own ts) d stack k (token ∷ ts)
 
 -- the tokens behind the parts of a group end it so
-abbrev pub PartsEnd : List (List ℕ) → (List Expr → Group) → (List Expr → Settled) → (List Expr → Option Expr) → List Lexeme → Type 0
+abbrev pub PartsEnd : List (List ℕ) → (List Expr → Group) → (List Expr → AfterPart) → (List Expr → Option Expr) → List Lexeme → Type 0
 PartsEnd own group closing whole [] = (parts : List Expr) (a : Expr) → wholly (group parts) a ≡ whole (parts ++ a ∷ [])
-PartsEnd own group closing whole (token ∷ ts) = (reach own token ≡ r.Ends) × ((parts : List Expr) (a : Expr) → settled (group parts) (sign_of token) a ≡ closing (parts ++ a ∷ []))
+PartsEnd own group closing whole (token ∷ ts) = (reach own token ≡ r.Ends) × ((parts : List Expr) (a : Expr) → after_part (group parts) (sign_of token) a ≡ closing (parts ++ a ∷ []))
 
-abbrev pub FillsEnd : List (List ℕ) → (List Fill → Settled) → List Lexeme → Type 0
+abbrev pub FillsEnd : List (List ℕ) → (List Fill → AfterPart) → List Lexeme → Type 0
 FillsEnd own closing [] = ⊥
-FillsEnd own closing (token ∷ ts) = (reach own token ≡ r.Ends) × ((fills : List Fill) (a : Expr) → settled (grp.Fill fills) (sign_of token) a ≡ closing (fills ++ fill.One a ∷ []))
-    × ((fills : List Fill) (from a : Expr) → settled (grp.Range fills from) (sign_of token) a ≡ closing (fills ++ fill.Range from a ∷ []))
+FillsEnd own closing (token ∷ ts) = (reach own token ≡ r.Ends) × ((fills : List Fill) (a : Expr) → after_part (grp.Fill fills) (sign_of token) a ≡ closing (fills ++ fill.One a ∷ []))
+    × ((fills : List Fill) (from a : Expr) → after_part (grp.Range fills from) (sign_of token) a ≡ closing (fills ++ fill.Range from a ∷ []))
 
-abbrev pub PairsEnd : List (List ℕ) → (List Pair → Settled) → List Lexeme → Type 0
+abbrev pub PairsEnd : List (List ℕ) → (List Pair → AfterPart) → List Lexeme → Type 0
 PairsEnd own closing [] = ⊥
-PairsEnd own closing (token ∷ ts) = (reach own token ≡ r.Ends) × ((pairs : List Pair) (key a : Expr) → settled (grp.Associate pairs key) (sign_of token) a ≡ closing (pairs ++ paired key a ∷ []))
+PairsEnd own closing (token ∷ ts) = (reach own token ≡ r.Ends) × ((pairs : List Pair) (key a : Expr) → after_part (grp.Associate pairs key) (sign_of token) a ≡ closing (pairs ++ paired key a ∷ []))
 
 -- no list, where the tokens may not end
 abbrev never : {X : Type 0} → List X → Option Expr
 never xs = None
 
-parts_follow : (own : List (List ℕ)) (group : List Expr → Group) (closing : List Expr → Settled) (whole : List Expr → Option Expr) (ts : List Lexeme) → PartsEnd own group closing whole ts → Follows own 1 ts
+parts_follow : (own : List (List ℕ)) (group : List Expr → Group) (closing : List Expr → AfterPart) (whole : List Expr → Option Expr) (ts : List Lexeme) → PartsEnd own group closing whole ts → Follows own 1 ts
 parts_follow own group closing whole [] h = tt
 parts_follow own group closing whole (token ∷ ts) h = follows_none (reach own token) 1 h.0
 
-parts_end : (leaves : Leaves) (own : List (List ℕ)) (group : List Expr → Group) (closing : List Expr → Settled) (whole : List Expr → Option Expr) (ts : List Lexeme) (d k : ℕ) (parts : List Expr) (a : Expr) (stack : List Frame)
+parts_end : (leaves : Leaves) (own : List (List ℕ)) (group : List Expr → Group) (closing : List Expr → AfterPart) (whole : List Expr → Option Expr) (ts : List Lexeme) (d k : ℕ) (parts : List Expr) (a : Expr) (stack : List Frame)
     → PartsEnd own group closing whole ts → run leaves own ts d (f.Inside k (group parts) ∷ stack) (turn.Has 1 1 a) ≡ after leaves own closing whole k (parts ++ a ∷ []) d stack ts
 unfolding run finished
 parts_end leaves own group closing whole [] d k parts a stack h = ap whole_found (h parts a)
 parts_end leaves own group closing whole (token ∷ ts) d k parts a stack h = group_ends leaves own token ts d k (group parts) stack a (closing (parts ++ a ∷ [])) h.0 (h.1 parts a)
 
-fills_follow : (own : List (List ℕ)) (closing : List Fill → Settled) (ts : List Lexeme) → FillsEnd own closing ts → Follows own 1 ts
+fills_follow : (own : List (List ℕ)) (closing : List Fill → AfterPart) (ts : List Lexeme) → FillsEnd own closing ts → Follows own 1 ts
 fills_follow own closing [] h = tt
 fills_follow own closing (token ∷ ts) h = follows_none (reach own token) 1 h.0
 
-fill_ends : (leaves : Leaves) (own : List (List ℕ)) (closing : List Fill → Settled) (ts : List Lexeme) (d k : ℕ) (fills : List Fill) (a : Expr) (stack : List Frame)
+fill_ends : (leaves : Leaves) (own : List (List ℕ)) (closing : List Fill → AfterPart) (ts : List Lexeme) (d k : ℕ) (fills : List Fill) (a : Expr) (stack : List Frame)
     → FillsEnd own closing ts → run leaves own ts d (f.Inside k (grp.Fill fills) ∷ stack) (turn.Has 1 1 a) ≡ after leaves own closing never k (fills ++ fill.One a ∷ []) d stack ts
 fill_ends leaves own closing [] d k fills a stack h = absurd h
 fill_ends leaves own closing (token ∷ ts) d k fills a stack h = group_ends leaves own token ts d k (grp.Fill fills) stack a (closing (fills ++ fill.One a ∷ [])) h.0 (h.1 fills a)
 
-range_ends : (leaves : Leaves) (own : List (List ℕ)) (closing : List Fill → Settled) (ts : List Lexeme) (d k : ℕ) (fills : List Fill) (from a : Expr) (stack : List Frame)
+range_ends : (leaves : Leaves) (own : List (List ℕ)) (closing : List Fill → AfterPart) (ts : List Lexeme) (d k : ℕ) (fills : List Fill) (from a : Expr) (stack : List Frame)
     → FillsEnd own closing ts → run leaves own ts d (f.Inside k (grp.Range fills from) ∷ stack) (turn.Has 1 1 a) ≡ after leaves own closing never k (fills ++ fill.Range from a ∷ []) d stack ts
 range_ends leaves own closing [] d k fills from a stack h = absurd h
 range_ends leaves own closing (token ∷ ts) d k fills from a stack h = group_ends leaves own token ts d k (grp.Range fills from) stack a (closing (fills ++ fill.Range from a ∷ [])) h.0 (h.2 fills from a)
 
-pairs_follow : (own : List (List ℕ)) (closing : List Pair → Settled) (ts : List Lexeme) → PairsEnd own closing ts → Follows own 1 ts
+pairs_follow : (own : List (List ℕ)) (closing : List Pair → AfterPart) (ts : List Lexeme) → PairsEnd own closing ts → Follows own 1 ts
 pairs_follow own closing [] h = tt
 pairs_follow own closing (token ∷ ts) h = follows_none (reach own token) 1 h.0
 
-associate_ends : (leaves : Leaves) (own : List (List ℕ)) (closing : List Pair → Settled) (ts : List Lexeme) (d k : ℕ) (pairs : List Pair) (key a : Expr) (stack : List Frame)
+associate_ends : (leaves : Leaves) (own : List (List ℕ)) (closing : List Pair → AfterPart) (ts : List Lexeme) (d k : ℕ) (pairs : List Pair) (key a : Expr) (stack : List Frame)
     → PairsEnd own closing ts → run leaves own ts d (f.Inside k (grp.Associate pairs key) ∷ stack) (turn.Has 1 1 a) ≡ after leaves own closing never k (pairs ++ paired key a ∷ []) d stack ts
 associate_ends leaves own closing [] d k pairs key a stack h = absurd h
 associate_ends leaves own closing (token ∷ ts) d k pairs key a stack h = group_ends leaves own token ts d k (grp.Associate pairs key) stack a (closing (pairs ++ paired key a ∷ [])) h.0 (h.1 pairs key a)
@@ -280,8 +280,8 @@ module _ (law : OneReading) where
         ∙ same_level (reader own c) own rest (suc d) stack k 10 n (e.Table pairs) g h
 
     pub complete_parts : {own : List (List ℕ)} {d : ℕ} {parts : List Expr} {ts rest : List Lexeme} → Parts own d parts ts rest
-        → (c : ℕ) → d ≤ c → (group : List Expr → Group) (closing : List Expr → Settled) (whole : List Expr → Option Expr)
-        → ((xs : List Expr) (x : Expr) → settled (group xs) s.Comma x ≡ done.Goes (group (xs ++ x ∷ [])))
+        → (c : ℕ) → d ≤ c → (group : List Expr → Group) (closing : List Expr → AfterPart) (whole : List Expr → Option Expr)
+        → ((xs : List Expr) (x : Expr) → after_part (group xs) s.Comma x ≡ done.Goes (group (xs ++ x ∷ [])))
         → (k : ℕ) (so_far : List Expr) (stack : List Frame) → PartsEnd own group closing whole rest
         → run (reader own c) own ts d (f.Inside k (group so_far) ∷ stack) (turn.Wants 1) ≡ after (reader own c) own closing whole k (so_far ++ parts) d stack rest
     complete_parts {own = own} {d = d} {rest = rest} (one {a = a} p) c deep group closing whole goes k so_far stack end =
@@ -294,7 +294,7 @@ module _ (law : OneReading) where
         ∙ ap (λ x. after (reader own c) own closing whole k x d stack rest) (append_assoc so_far (a ∷ []) parts)
 
     pub complete_filler : {own : List (List ℕ)} {d : ℕ} {x : Fill} {ts rest : List Lexeme} → Filler own d x ts rest
-        → (c : ℕ) → d ≤ c → (closing : List Fill → Settled) (k : ℕ) (so_far : List Fill) (stack : List Frame) → FillsEnd own closing rest
+        → (c : ℕ) → d ≤ c → (closing : List Fill → AfterPart) (k : ℕ) (so_far : List Fill) (stack : List Frame) → FillsEnd own closing rest
         → run (reader own c) own ts d (f.Inside k (grp.Fill so_far) ∷ stack) (turn.Wants 1) ≡ after (reader own c) own closing never k (so_far ++ x ∷ []) d stack rest
     complete_filler {own = own} {d = d} {rest = rest} (single {a = a} p) c deep closing k so_far stack end =
         complete p c 1 (f.Inside k (grp.Fill so_far) ∷ stack) deep (omega arith) (fills_follow own closing rest end)
@@ -306,7 +306,7 @@ module _ (law : OneReading) where
         ∙ range_ends (reader own c) own closing rest d k so_far a b stack end
 
     pub complete_fills : {own : List (List ℕ)} {d : ℕ} {fills : List Fill} {ts rest : List Lexeme} → Fills own d fills ts rest
-        → (c : ℕ) → d ≤ c → (closing : List Fill → Settled) (k : ℕ) (so_far : List Fill) (stack : List Frame) → FillsEnd own closing rest
+        → (c : ℕ) → d ≤ c → (closing : List Fill → AfterPart) (k : ℕ) (so_far : List Fill) (stack : List Frame) → FillsEnd own closing rest
         → run (reader own c) own ts d (f.Inside k (grp.Fill so_far) ∷ stack) (turn.Wants 1) ≡ after (reader own c) own closing never k (so_far ++ fills) d stack rest
     complete_fills (one_fill p) c deep closing k so_far stack end = complete_filler p c deep closing k so_far stack end
     complete_fills {own = own} {d = d} {rest = rest} (more_fills {fill = x} {fills = fills} p q) c deep closing k so_far stack end =
@@ -315,7 +315,7 @@ module _ (law : OneReading) where
         ∙ ap (λ xs. after (reader own c) own closing never k xs d stack rest) (append_assoc so_far (x ∷ []) fills)
 
     pub complete_entry : {own : List (List ℕ)} {d : ℕ} {x : Pair} {ts rest : List Lexeme} → Entry own d x ts rest
-        → (c : ℕ) → d ≤ c → (closing : List Pair → Settled) (k : ℕ) (so_far : List Pair) (stack : List Frame) → PairsEnd own closing rest
+        → (c : ℕ) → d ≤ c → (closing : List Pair → AfterPart) (k : ℕ) (so_far : List Pair) (stack : List Frame) → PairsEnd own closing rest
         → run (reader own c) own ts d stack (turn.Pair k so_far) ≡ after (reader own c) own closing never k (so_far ++ x ∷ []) d stack rest
     complete_entry {own = own} {rest = rest} (entry {d = d} {parts = parts} {a = a} p q) c deep closing k so_far stack end =
         complete_parts p c (omega arith) (grp.Key so_far) (λ parts. done.Keyed so_far (compound parts)) never (λ xs x. refl) k [] stack (refl, λ xs x. refl)
@@ -323,7 +323,7 @@ module _ (law : OneReading) where
         ∙ associate_ends (reader own c) own closing rest (suc d) k so_far (compound parts) a stack end
 
     pub complete_pairs : {own : List (List ℕ)} {d : ℕ} {pairs : List Pair} {ts rest : List Lexeme} → Pairs own d pairs ts rest
-        → (c : ℕ) → d ≤ c → (closing : List Pair → Settled) (k : ℕ) (so_far : List Pair) (stack : List Frame) → PairsEnd own closing rest
+        → (c : ℕ) → d ≤ c → (closing : List Pair → AfterPart) (k : ℕ) (so_far : List Pair) (stack : List Frame) → PairsEnd own closing rest
         → run (reader own c) own ts d stack (turn.Pair k so_far) ≡ after (reader own c) own closing never k (so_far ++ pairs) d stack rest
     complete_pairs (one_pair p) c deep closing k so_far stack end = complete_entry p c deep closing k so_far stack end
     complete_pairs {own = own} {d = d} {rest = rest} (more_pairs {pair = x} {pairs = pairs} p q) c deep closing k so_far stack end =
@@ -346,7 +346,7 @@ module _ (law : OneReading) where
 -- nothing at the rest goes on
 abbrev pub Stops : List (List ℕ) → List Lexeme → Type 0
 Stops own [] = Unit {0}
-Stops own (token ∷ ts) = (reach own token ≡ r.Ends) × ((parts : List Expr) (a : Expr) → settled (grp.Whole parts) (sign_of token) a ≡ done.Stops (compound (parts ++ a ∷ [])))
+Stops own (token ∷ ts) = (reach own token ≡ r.Ends) × ((parts : List Expr) (a : Expr) → after_part (grp.Whole parts) (sign_of token) a ≡ done.Stops (compound (parts ++ a ∷ [])))
 
 whole_ends : (own : List (List ℕ)) (rest : List Lexeme) → Stops own rest → PartsEnd own grp.Whole (λ parts. done.Stops (compound parts)) (λ parts. Some (compound parts)) rest
 whole_ends own [] h = λ xs x. refl

@@ -16,7 +16,7 @@ use Rattle.abc_expressions.specs.declared.frames.Step.{Step}
 use Rattle.abc_expressions.specs.declared.frames.Step.TheVariants as step
 use Rattle.abc_expressions.specs.declared.lexemes.Lexeme.{Lexeme}
 use Rattle.abc_expressions.specs.Operators.{joined1, joined2}
-use Rattle.abc_expressions.specs.inner.Machine.{Found, Next, reach, goes_on, within, taken, popped, sign_of, settled, settles, opened, wanted, finished, whole_found, wholly}
+use Rattle.abc_expressions.specs.inner.Machine.{Found, Next, reach, goes_on, within, taken, popped, sign_of, after_part, go_on_after, opened, wanted, finished, whole_found, wholly}
 use Rattle.abc_expressions.specs.inner.Steps.{Steps, Gives, behind, opens}
 
 -- the same group
@@ -64,7 +64,7 @@ module _ (own : List (List ℕ)) (token : Lexeme) (ts : List Lexeme) (d k m : �
   at_before p q rest j join c e g next = ended p q next ∙ ap (λ s. popped own token ts next d s a) e ∙ ap (λ c. behind own token ts d rest j 7 c next) (sym g)
 
   pub at_inside : x ≡ reach own token → goes_on x k m ≡ false → (rest : List Frame) (j : ℕ) (group : Group) → stack ≡ f.Inside j group ∷ rest
-      → (next : Next) → behind own token ts d stack k m a next ≡ settles (settled group (sign_of token) a) next d rest j (token ∷ ts)
+      → (next : Next) → behind own token ts d stack k m a next ≡ go_on_after (after_part group (sign_of token) a) next d rest j (token ∷ ts)
   unfolding popped
   at_inside p q rest j group e next = ended p q next ∙ ap (λ s. popped own token ts next d s a) e
 

@@ -25,8 +25,8 @@ use Rattle.abc_expressions.specs.declared.frames.Operand.{Operand}
 use Rattle.abc_expressions.specs.declared.frames.Operand.TheVariants as o
 use Rattle.abc_expressions.specs.declared.frames.Reach.{Reach}
 use Rattle.abc_expressions.specs.declared.frames.Reach.TheVariants as r
-use Rattle.abc_expressions.specs.declared.frames.Settled.{Settled}
-use Rattle.abc_expressions.specs.declared.frames.Settled.TheVariants as done
+use Rattle.abc_expressions.specs.declared.frames.AfterPart.{AfterPart}
+use Rattle.abc_expressions.specs.declared.frames.AfterPart.TheVariants as done
 use Rattle.abc_expressions.specs.declared.frames.Turn.{Turn}
 use Rattle.abc_expressions.specs.declared.frames.Turn.TheVariants as turn
 use Rattle.abc_expressions.specs.declared.signs.Sign.{Sign}
@@ -40,7 +40,7 @@ use Rattle.abc_expressions.specs.Operators.{kind_of, begins, lead_by, lead, infi
 use Rattle.abc_expressions.specs.Grammar.{compound, paired, Spells, number, text, name, call, before, between, select, round, empty, list, table, Parts, one, more, single, range, Fills, one_fill, more_fills, Entry, entry, Pairs, one_pair, more_pairs, Pieces, none, characters, conversion, Spelled}
 use Rattle.abc_expressions.specs.Fronts.{EndsBefore, IsFront}
 use Rattle.abc_expressions.specs.inner.Numbers.{number_at}
-use Rattle.abc_expressions.specs.inner.Machine.{Found, Leaves, Converts, converter, reader, leaf, role_of, leaf_operand, operand, opened, displayed, wanted, reach_by, reach, within, taken, sign_of, settled, settles, popped, in_display, at_pair, at_colon, finished, run, tree_of, alone, lexed, split, Splitting, pieces_of, conversion_at, front_piece, converted_piece, text_of, text_by, number_of, read_tokens, expression_of}
+use Rattle.abc_expressions.specs.inner.Machine.{Found, Leaves, Converts, converter, reader, leaf, role_of, leaf_operand, operand, opened, displayed, wanted, reach_by, reach, within, taken, sign_of, after_part, go_on_after, popped, in_display, at_pair, at_colon, finished, run, tree_of, alone, lexed, split, Splitting, pieces_of, conversion_at, front_piece, converted_piece, text_of, text_by, number_of, read_tokens, expression_of}
 use Rattle.abc_tokens.proofs.Faults.{OneReading}
 use Rattle.abc_expressions.proofs.Levels.{HasShape, shaped_reach}
 use Rattle.abc_expressions.proofs.Ending.{NoComma, IsWholeFront, Full, passed, full_at_first, full_between, full_before, ends_before}
@@ -264,7 +264,7 @@ module _ (own : List (List ℕ)) (most least : ℕ) (least_low : least ≤ 10) (
 
   -- ---- what a token makes of a group
 
-  abbrev Good : ℕ → List Frame → ℕ → Lexeme → List Lexeme → Settled → Type 0
+  abbrev Good : ℕ → List Frame → ℕ → Lexeme → List Lexeme → AfterPart → Type 0
   Good d stack j token ts (done.Goes group) = Pending (f.Inside j group ∷ stack) 1 d ts
   Good d stack j token ts (done.Gives a) = Stands (suc d) stack (turn.Has j 10 a) ts
   Good d stack j token ts (done.Keyed pairs key) = Stands (suc d) stack (turn.Colon j pairs key) ts
@@ -283,7 +283,7 @@ module _ (own : List (List ℕ)) (most least : ℕ) (least_low : least ≤ 10) (
       ended_single own most least all rest single_only a h (subst (λ (x : ℕ). Spells own x least a all rest) e (subst (λ (x : List Lexeme). Spells own d least a x rest) is p), end)
 
   good_whole : (parts : List Expr) (token : Lexeme) (d : ℕ) (stack : List Frame) (j : ℕ) (a : Expr) (us ts : List Lexeme) → Spells own d 1 a us (token ∷ ts)
-      → Pending (f.Inside j (grp.Whole parts) ∷ stack) 1 d us → EndsBefore own 1 (token ∷ ts) → Good d stack j token ts (settled (grp.Whole parts) (sign_of token) a)
+      → Pending (f.Inside j (grp.Whole parts) ∷ stack) 1 d us → EndsBefore own 1 (token ∷ ts) → Good d stack j token ts (after_part (grp.Whole parts) (sign_of token) a)
   good_whole parts (t.Sign s.Comma) d stack j a us ts p h end = (refl, h.1, h.2, sofar_more (Parts own d) parts a all us ts h.3 (λ xs rest q. more p q))
   good_whole parts (t.Sign sign) d stack j a us ts p h end = stops_parts d parts a us (t.Sign sign ∷ ts) p h.1 h.2 h.3 end (λ e. cc)
   good_whole parts (t.Number bytes) d stack j a us ts p h end = stops_parts d parts a us (t.Number bytes ∷ ts) p h.1 h.2 h.3 end (λ e. cc)
@@ -293,7 +293,7 @@ module _ (own : List (List ℕ)) (most least : ℕ) (least_low : least ≤ 10) (
   good_whole parts t.Other d stack j a us ts p h end = stops_parts d parts a us (t.Other ∷ ts) p h.1 h.2 h.3 end (λ e. cc)
 
   good_round : (parts : List Expr) (token : Lexeme) (d : ℕ) (stack : List Frame) (j : ℕ) (a : Expr) (us ts : List Lexeme) → Spells own d 1 a us (token ∷ ts)
-      → Pending (f.Inside j (grp.Round parts) ∷ stack) 1 d us → Good d stack j token ts (settled (grp.Round parts) (sign_of token) a)
+      → Pending (f.Inside j (grp.Round parts) ∷ stack) 1 d us → Good d stack j token ts (after_part (grp.Round parts) (sign_of token) a)
   good_round parts (t.Sign s.Comma) d stack j a us ts p h = (refl, h.1, h.2, sofar_more (Parts own d) parts a h.2 us ts h.3 (λ xs rest q. more p q), h.4)
   good_round parts (t.Sign s.Close) d stack j a us ts p h =
       (t.Sign s.Open ∷ h.2, round (omega arith) (sofar_all (Parts own d) parts a h.2 us (t.Sign s.Close ∷ ts) h.3 (one p)), h.1, h.4, refl)
@@ -305,7 +305,7 @@ module _ (own : List (List ℕ)) (most least : ℕ) (least_low : least ≤ 10) (
   good_round parts t.Other d stack j a us ts p h = tt
 
   good_select : (c : Expr) (parts : List Expr) (token : Lexeme) (d : ℕ) (stack : List Frame) (j : ℕ) (a : Expr) (us ts : List Lexeme) → Spells own d 1 a us (token ∷ ts)
-      → Pending (f.Inside j (grp.Select c parts) ∷ stack) 1 d us → Good d stack j token ts (settled (grp.Select c parts) (sign_of token) a)
+      → Pending (f.Inside j (grp.Select c parts) ∷ stack) 1 d us → Good d stack j token ts (after_part (grp.Select c parts) (sign_of token) a)
   good_select c parts (t.Sign s.Comma) d stack j a us ts p h = (refl, h.1, h.2, sofar_more (Parts own d) parts a h.2 us ts h.3 (λ xs rest q. more p q), h.4, h.5, h.6)
   good_select c parts (t.Sign s.Unbracket) d stack j a us ts p h =
       (h.4, select (omega arith) h.5 (sofar_all (Parts own d) parts a h.2 us (t.Sign s.Unbracket ∷ ts) h.3 (one p)), h.1, h.6, refl)
@@ -317,7 +317,7 @@ module _ (own : List (List ℕ)) (most least : ℕ) (least_low : least ≤ 10) (
   good_select c parts t.Other d stack j a us ts p h = tt
 
   good_key : (pairs : List Pair) (parts : List Expr) (token : Lexeme) (d : ℕ) (stack : List Frame) (j : ℕ) (a : Expr) (us ts : List Lexeme) → Spells own d 1 a us (token ∷ ts)
-      → Pending (f.Inside j (grp.Key pairs parts) ∷ stack) 1 d us → Good d stack j token ts (settled (grp.Key pairs parts) (sign_of token) a)
+      → Pending (f.Inside j (grp.Key pairs parts) ∷ stack) 1 d us → Good d stack j token ts (after_part (grp.Key pairs parts) (sign_of token) a)
   good_key pairs parts (t.Sign s.Comma) d stack j a us ts p h = (refl, h.1, h.2, sofar_more (Parts own d) parts a h.2 us ts h.3 (λ xs rest q. more p q), h.4, h.5, h.6)
   good_key pairs parts (t.Sign s.Unbracket) d stack j a us ts p h =
       (h.4, t.Sign s.Bracket ∷ h.2, h.5, is_key own d (parts ++ a ∷ []) h.2 ts (sofar_all (Parts own d) parts a h.2 us (t.Sign s.Unbracket ∷ ts) h.3 (one p)), h.6)
@@ -329,7 +329,7 @@ module _ (own : List (List ℕ)) (most least : ℕ) (least_low : least ≤ 10) (
   good_key pairs parts t.Other d stack j a us ts p h = tt
 
   good_fill : (fills : List Fill) (token : Lexeme) (d : ℕ) (stack : List Frame) (j : ℕ) (a : Expr) (us ts : List Lexeme) → Spells own d 1 a us (token ∷ ts)
-      → Pending (f.Inside j (grp.Fill fills) ∷ stack) 1 d us → Good d stack j token ts (settled (grp.Fill fills) (sign_of token) a)
+      → Pending (f.Inside j (grp.Fill fills) ∷ stack) 1 d us → Good d stack j token ts (after_part (grp.Fill fills) (sign_of token) a)
   good_fill fills (t.Sign s.PointPoint) d stack j a us ts p h = (refl, h.1, h.2, us, h.3, p, h.4)
   good_fill fills (t.Sign s.Semicolon) d stack j a us ts p h = (refl, h.1, h.2, sofar_more (Fills own d) fills (fill.One a) h.2 us ts h.3 (λ xs rest q. more_fills (single p) q), h.4)
   good_fill fills (t.Sign s.Unbrace) d stack j a us ts p h =
@@ -342,7 +342,7 @@ module _ (own : List (List ℕ)) (most least : ℕ) (least_low : least ≤ 10) (
   good_fill fills t.Other d stack j a us ts p h = tt
 
   good_range : (fills : List Fill) (from : Expr) (token : Lexeme) (d : ℕ) (stack : List Frame) (j : ℕ) (a : Expr) (us ts : List Lexeme) → Spells own d 1 a us (token ∷ ts)
-      → Pending (f.Inside j (grp.Range fills from) ∷ stack) 1 d us → Good d stack j token ts (settled (grp.Range fills from) (sign_of token) a)
+      → Pending (f.Inside j (grp.Range fills from) ∷ stack) 1 d us → Good d stack j token ts (after_part (grp.Range fills from) (sign_of token) a)
   good_range fills from (t.Sign s.Semicolon) d stack j a us ts p h = (refl, h.1, h.2, sofar_more (Fills own d) fills (fill.Range from a) h.2 h.3 ts h.4 (λ xs rest q. more_fills (range h.5 p) q), h.6)
   good_range fills from (t.Sign s.Unbrace) d stack j a us ts p h =
       (t.Sign s.Brace ∷ h.2, list (omega arith) (sofar_all (Fills own d) fills (fill.Range from a) h.2 h.3 (t.Sign s.Unbrace ∷ ts) h.4 (one_fill (range h.5 p))), h.1, h.6, refl)
@@ -354,7 +354,7 @@ module _ (own : List (List ℕ)) (most least : ℕ) (least_low : least ≤ 10) (
   good_range fills from t.Other d stack j a us ts p h = tt
 
   good_associate : (pairs : List Pair) (key : Expr) (token : Lexeme) (d : ℕ) (stack : List Frame) (j : ℕ) (a : Expr) (us ts : List Lexeme) → Spells own d 1 a us (token ∷ ts)
-      → Pending (f.Inside j (grp.Associate pairs key) ∷ stack) 1 d us → Good d stack j token ts (settled (grp.Associate pairs key) (sign_of token) a)
+      → Pending (f.Inside j (grp.Associate pairs key) ∷ stack) 1 d us → Good d stack j token ts (after_part (grp.Associate pairs key) (sign_of token) a)
   good_associate pairs key (t.Sign s.Semicolon) d stack j a us ts p h = (h.2, sofar_more (Pairs own d) pairs (paired key a) h.2 h.3 ts h.4 (λ xs rest q. more_pairs (is_entry own d key a h.3 us (t.Sign s.Semicolon ∷ ts) h.5 p) q), h.6)
   good_associate pairs key (t.Sign s.Unbrace) d stack j a us ts p h =
       (t.Sign s.Brace ∷ h.2, table (omega arith) (sofar_all (Pairs own d) pairs (paired key a) h.2 h.3 (t.Sign s.Unbrace ∷ ts) h.4 (one_pair (is_entry own d key a h.3 us (t.Sign s.Unbrace ∷ ts) h.5 p))), h.1, h.6, refl)
@@ -366,7 +366,7 @@ module _ (own : List (List ℕ)) (most least : ℕ) (least_low : least ≤ 10) (
   good_associate pairs key t.Other d stack j a us ts p h = tt
 
   good : (group : Group) (token : Lexeme) (d : ℕ) (stack : List Frame) (j k m : ℕ) (a : Expr) (us ts : List Lexeme) → Spells own d m a us (token ∷ ts) → k ≤ m
-      → Pending (f.Inside j group ∷ stack) k d us → EndsBefore own k (token ∷ ts) → Good d stack j token ts (settled group (sign_of token) a)
+      → Pending (f.Inside j group ∷ stack) k d us → EndsBefore own k (token ∷ ts) → Good d stack j token ts (after_part group (sign_of token) a)
   good grp.Single token d stack j k m a us ts p le h end =
       let e : k ≡ least = h.0 in stops_single d a us (token ∷ ts) (weaken p least (omega arith)) h.1 h.2 h.3 (subst (λ (x : ℕ). EndsBefore own x (token ∷ ts)) e end)
   good (grp.Whole parts) token d stack j k m a us ts p le h end =
@@ -409,13 +409,13 @@ module _ (own : List (List ℕ)) (most least : ℕ) (least_low : least ≤ 10) (
         h
     chosen r.Ends d stack k m a us otherwise fit p pd is go h = go is h
 
-    settles_step : (x : Settled) (d j : ℕ) (stack : List Frame) → Good d stack j token ts x → settles x (run leaves own ts) d stack j (token ∷ ts) ≡ Some result → R
-    settles_step (done.Goes group) d j stack p h = ih d (f.Inside j group ∷ stack) (turn.Wants 1) p h
-    settles_step (done.Gives a) d j stack p h = ih (suc d) stack (turn.Has j 10 a) p h
-    settles_step (done.Keyed pairs key) d j stack p h = ih (suc d) stack (turn.Colon j pairs key) p h
-    settles_step (done.Again pairs) d j stack p h = ih d stack (turn.Pair j pairs) p h
-    settles_step (done.Stops a) d j stack p h = let same : result ≡ (a, token ∷ ts) = cc in ends a p same
-    settles_step done.Wrong d j stack p h = cc
+    after_part_step : (x : AfterPart) (d j : ℕ) (stack : List Frame) → Good d stack j token ts x → go_on_after x (run leaves own ts) d stack j (token ∷ ts) ≡ Some result → R
+    after_part_step (done.Goes group) d j stack p h = ih d (f.Inside j group ∷ stack) (turn.Wants 1) p h
+    after_part_step (done.Gives a) d j stack p h = ih (suc d) stack (turn.Has j 10 a) p h
+    after_part_step (done.Keyed pairs key) d j stack p h = ih (suc d) stack (turn.Colon j pairs key) p h
+    after_part_step (done.Again pairs) d j stack p h = ih d stack (turn.Pair j pairs) p h
+    after_part_step (done.Stops a) d j stack p h = let same : result ≡ (a, token ∷ ts) = cc in ends a p same
+    after_part_step done.Wrong d j stack p h = cc
 
     has_step : (stack : List Frame) (d k m : ℕ) (a : Expr) (us : List Lexeme) → Spells own d m a us (token ∷ ts) → k ≤ m → Pending stack k d us → Full (reach own token) k m
         → taken (within (reach own token) k m) (run leaves own ts) d stack k a (popped own token ts (run leaves own ts) d stack a) ≡ Some result → R
@@ -433,7 +433,7 @@ module _ (own : List (List ℕ)) (most least : ℕ) (least_low : least ≤ 10) (
         (full_before (reach own token) j k (shaped_reach own token) pd.2 (passed (reach own token) k m full none))) h
     has_step (f.Inside j group ∷ stack) d k m a us p le pd full h =
         chosen (within (reach own token) k m) d (f.Inside j group ∷ stack) k m a us (popped own token ts (run leaves own ts) d (f.Inside j group ∷ stack) a) (fits token k m) p pd refl
-        (λ none. settles_step (settled group (sign_of token) a) d j stack
+        (λ none. after_part_step (after_part group (sign_of token) a) d j stack
         (good group token d stack j k m a us ts p le pd (ends_before own token ts k (passed (reach own token) k m full none)))) h
 
     wants_step : (x : Operand) (stack : List Frame) (d k : ℕ) → Told d token ts x → Pending stack k d (token ∷ ts)

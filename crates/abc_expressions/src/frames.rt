@@ -17,7 +17,7 @@ pub struct Infix {
     pub join: Join,
 }
 
-/// What waits for its last operand up to the sign that ends it, with what stands before that operand.
+/// An open bracket, or the whole, with the parts of it that are read already. Its last part ends at the sign that closes it.
 #[derive(Drop)]
 pub enum Group {
     /// The whole, which may be a compound.
@@ -89,7 +89,7 @@ pub enum Operand {
 
 /// What a sign makes of a group, behind its last operand.
 #[derive(Drop)]
-pub enum Settled {
+pub enum AfterPart {
     /// It goes on with a further operand.
     Goes(Group),
     /// The bracket closes.

@@ -2,10 +2,10 @@
 ghost use Rattle.std.specs.Prelude.{◌≡◌, ◌++◌, ◌∷◌, [], IfOk};
 ghost use Rattle.abc_expressions.specs.Operators.{nullary, unary, binary, joined1, joined2};
 ghost use Rattle.abc_expressions.specs.Grammar.{compound, paired};
-ghost use Rattle.abc_expressions.specs.inner.Machine.{settled, wholly};
+ghost use Rattle.abc_expressions.specs.inner.Machine.{after_part, wholly};
 ghost use Rattle.abc_expressions.specs.declared.frames.Group.TheVariants as grp;
 
-use crate::frames::{Group, Join, Settled};
+use crate::frames::{AfterPart, Group, Join};
 use crate::signs::Sign;
 use abc_num::{Boxed, Items, OutOfMemory, Text};
 use abc_tree::{Expr, Exprs, Fill, Fills, Pair, Pairs, Template, TemplateKind, Word};
@@ -122,88 +122,88 @@ fn compound_with(mut parts: Exprs, last: Expr) -> Result<Expr, OutOfMemory>
     Ok(compound(parts))
 }
 
-fn settled_whole(parts: Exprs, sign: Sign, a: Expr) -> Result<Settled, OutOfMemory>
-    ensures { IfOk result (λ x. x ≡ settled (grp.Whole parts) sign a) }
+fn after_whole(parts: Exprs, sign: Sign, a: Expr) -> Result<AfterPart, OutOfMemory>
+    ensures { IfOk result (λ x. x ≡ after_part (grp.Whole parts) sign a) }
 {
     match sign {
-        Sign::Comma => Ok(Settled::Goes(Group::Whole(with_last(parts, a)?))),
-        _ => Ok(Settled::Stops(compound_with(parts, a)?)),
+        Sign::Comma => Ok(AfterPart::Goes(Group::Whole(with_last(parts, a)?))),
+        _ => Ok(AfterPart::Stops(compound_with(parts, a)?)),
     }
 }
 
-fn settled_round(parts: Exprs, sign: Sign, a: Expr) -> Result<Settled, OutOfMemory>
-    ensures { IfOk result (λ x. x ≡ settled (grp.Round parts) sign a) }
+fn after_round(parts: Exprs, sign: Sign, a: Expr) -> Result<AfterPart, OutOfMemory>
+    ensures { IfOk result (λ x. x ≡ after_part (grp.Round parts) sign a) }
 {
     match sign {
-        Sign::Comma => Ok(Settled::Goes(Group::Round(with_last(parts, a)?))),
-        Sign::Close => Ok(Settled::Gives(compound_with(parts, a)?)),
-        _ => Ok(Settled::Wrong),
+        Sign::Comma => Ok(AfterPart::Goes(Group::Round(with_last(parts, a)?))),
+        Sign::Close => Ok(AfterPart::Gives(compound_with(parts, a)?)),
+        _ => Ok(AfterPart::Wrong),
     }
 }
 
-fn settled_select(
+fn after_select(
     alloc: Global,
     table: Expr,
     parts: Exprs,
     sign: Sign,
     a: Expr,
-) -> Result<Settled, OutOfMemory>
-    ensures { IfOk result (λ x. x ≡ settled (grp.Select table parts) sign a) }
+) -> Result<AfterPart, OutOfMemory>
+    ensures { IfOk result (λ x. x ≡ after_part (grp.Select table parts) sign a) }
 {
     match sign {
-        Sign::Comma => Ok(Settled::Goes(Group::Select(table, with_last(parts, a)?))),
+        Sign::Comma => Ok(AfterPart::Goes(Group::Select(table, with_last(parts, a)?))),
         Sign::Unbracket => {
             let key = Boxed::new(alloc, compound_with(parts, a)?)?;
-            Ok(Settled::Gives(Expr::Select(Boxed::new(alloc, table)?, key)))
+            Ok(AfterPart::Gives(Expr::Select(Boxed::new(alloc, table)?, key)))
         }
-        _ => Ok(Settled::Wrong),
+        _ => Ok(AfterPart::Wrong),
     }
 }
 
-fn settled_key(pairs: Pairs, parts: Exprs, sign: Sign, a: Expr) -> Result<Settled, OutOfMemory>
-    ensures { IfOk result (λ x. x ≡ settled (grp.Key pairs parts) sign a) }
+fn after_key(pairs: Pairs, parts: Exprs, sign: Sign, a: Expr) -> Result<AfterPart, OutOfMemory>
+    ensures { IfOk result (λ x. x ≡ after_part (grp.Key pairs parts) sign a) }
 {
     match sign {
-        Sign::Comma => Ok(Settled::Goes(Group::Key(pairs, with_last(parts, a)?))),
-        Sign::Unbracket => Ok(Settled::Keyed(pairs, compound_with(parts, a)?)),
-        _ => Ok(Settled::Wrong),
+        Sign::Comma => Ok(AfterPart::Goes(Group::Key(pairs, with_last(parts, a)?))),
+        Sign::Unbracket => Ok(AfterPart::Keyed(pairs, compound_with(parts, a)?)),
+        _ => Ok(AfterPart::Wrong),
     }
 }
 
-fn settled_fill(fills: Fills, sign: Sign, a: Expr) -> Result<Settled, OutOfMemory>
-    ensures { IfOk result (λ x. x ≡ settled (grp.Fill fills) sign a) }
+fn after_fill(fills: Fills, sign: Sign, a: Expr) -> Result<AfterPart, OutOfMemory>
+    ensures { IfOk result (λ x. x ≡ after_part (grp.Fill fills) sign a) }
 {
     match sign {
-        Sign::PointPoint => Ok(Settled::Goes(Group::Range(fills, a))),
-        Sign::Semicolon => Ok(Settled::Goes(Group::Fill(with_last(fills, Fill::One(a))?))),
-        Sign::Unbrace => Ok(Settled::Gives(Expr::List(with_last(fills, Fill::One(a))?))),
-        _ => Ok(Settled::Wrong),
+        Sign::PointPoint => Ok(AfterPart::Goes(Group::Range(fills, a))),
+        Sign::Semicolon => Ok(AfterPart::Goes(Group::Fill(with_last(fills, Fill::One(a))?))),
+        Sign::Unbrace => Ok(AfterPart::Gives(Expr::List(with_last(fills, Fill::One(a))?))),
+        _ => Ok(AfterPart::Wrong),
     }
 }
 
-fn settled_range(fills: Fills, from: Expr, sign: Sign, a: Expr) -> Result<Settled, OutOfMemory>
-    ensures { IfOk result (λ x. x ≡ settled (grp.Range fills from) sign a) }
+fn after_range(fills: Fills, from: Expr, sign: Sign, a: Expr) -> Result<AfterPart, OutOfMemory>
+    ensures { IfOk result (λ x. x ≡ after_part (grp.Range fills from) sign a) }
 {
     match sign {
         Sign::Semicolon => {
             let fills = with_last(fills, Fill::Range(from, a))?;
-            Ok(Settled::Goes(Group::Fill(fills)))
+            Ok(AfterPart::Goes(Group::Fill(fills)))
         }
         Sign::Unbrace => {
             let fills = with_last(fills, Fill::Range(from, a))?;
-            Ok(Settled::Gives(Expr::List(fills)))
+            Ok(AfterPart::Gives(Expr::List(fills)))
         }
-        _ => Ok(Settled::Wrong),
+        _ => Ok(AfterPart::Wrong),
     }
 }
 
-fn settled_associate(pairs: Pairs, key: Expr, sign: Sign, a: Expr) -> Result<Settled, OutOfMemory>
-    ensures { IfOk result (λ x. x ≡ settled (grp.Associate pairs key) sign a) }
+fn after_associate(pairs: Pairs, key: Expr, sign: Sign, a: Expr) -> Result<AfterPart, OutOfMemory>
+    ensures { IfOk result (λ x. x ≡ after_part (grp.Associate pairs key) sign a) }
 {
     match sign {
-        Sign::Semicolon => Ok(Settled::Again(with_pair(pairs, key, a)?)),
-        Sign::Unbrace => Ok(Settled::Gives(Expr::Table(with_pair(pairs, key, a)?))),
-        _ => Ok(Settled::Wrong),
+        Sign::Semicolon => Ok(AfterPart::Again(with_pair(pairs, key, a)?)),
+        Sign::Unbrace => Ok(AfterPart::Gives(Expr::Table(with_pair(pairs, key, a)?))),
+        _ => Ok(AfterPart::Wrong),
     }
 }
 
@@ -215,23 +215,23 @@ fn settled_associate(pairs: Pairs, key: Expr, sign: Sign, a: Expr) -> Result<Set
 /// display = { } | { F ; F ; .. } | { [ C ] : E1 ; .. }
 /// F       = E1 | E1 .. E1
 /// ```
-pub(crate) fn settled(
+pub(crate) fn after_part(
     alloc: Global,
     group: Group,
     sign: Sign,
     a: Expr,
-) -> Result<Settled, OutOfMemory>
-    ensures { IfOk result (λ x. x ≡ settled group sign a) }
+) -> Result<AfterPart, OutOfMemory>
+    ensures { IfOk result (λ x. x ≡ after_part group sign a) }
 {
     match group {
-        Group::Whole(parts) => settled_whole(parts, sign, a),
-        Group::Single => Ok(Settled::Stops(a)),
-        Group::Round(parts) => settled_round(parts, sign, a),
-        Group::Select(table, parts) => settled_select(alloc, table, parts, sign, a),
-        Group::Key(pairs, parts) => settled_key(pairs, parts, sign, a),
-        Group::Fill(fills) => settled_fill(fills, sign, a),
-        Group::Range(fills, from) => settled_range(fills, from, sign, a),
-        Group::Associate(pairs, key) => settled_associate(pairs, key, sign, a),
+        Group::Whole(parts) => after_whole(parts, sign, a),
+        Group::Single => Ok(AfterPart::Stops(a)),
+        Group::Round(parts) => after_round(parts, sign, a),
+        Group::Select(table, parts) => after_select(alloc, table, parts, sign, a),
+        Group::Key(pairs, parts) => after_key(pairs, parts, sign, a),
+        Group::Fill(fills) => after_fill(fills, sign, a),
+        Group::Range(fills, from) => after_range(fills, from, sign, a),
+        Group::Associate(pairs, key) => after_associate(pairs, key, sign, a),
     }
 }
 

@@ -215,7 +215,7 @@ pub(crate) fn reach(alloc: Global, own: &Names, token: &Lexeme) -> Result<Reach,
     }
 }
 
-/// Whether it goes on at a place of this least level, behind an operand of this level.
+/// Whether what follows an operand of level `level` goes on with it, where an expression of at least level `least` is wanted.
 pub(crate) fn goes_on(reach: &Reach, least: u8, level: u8) -> bool
     ensures { result ≡ goes_on reach.now least level }
 {

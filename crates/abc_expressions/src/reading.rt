@@ -2,7 +2,7 @@
 //! or an open bracket. A token behind an operand goes on with it where it binds tightly enough; else the frame on top is
 //! reduced. So no function calls itself, and time is proportional to the number of tokens.
 ghost use Rattle.std.specs.Prelude.{◌≡◌, ◌+◌, ◌<◌, ◌≤◌, [], ◌∷◌, List, suc};
-ghost use Rattle.abc_expressions.specs.inner.Machine.{opened, displayed, wanted, taken, settled, settles, at_pair, at_colon, finished, whole_found, wholly};
+ghost use Rattle.abc_expressions.specs.inner.Machine.{opened, displayed, wanted, taken, after_part, go_on_after, at_pair, at_colon, finished, whole_found, wholly};
 ghost use Rattle.abc_expressions.specs.inner.Steps.{Steps, behind, opens, Counts, Gives};
 ghost use Rattle.abc_expressions.specs.declared.frames.Frame.TheVariants.{Inside};
 ghost use Rattle.abc_expressions.specs.declared.lexemes.Lexeme.{Lexeme};
@@ -12,9 +12,9 @@ ghost use Rattle.abc_expressions.specs.declared.frames.Turn.TheVariants.{Has};
 ghost use Rattle.abc_tree.specs.declared.formulas.Expr.TheVariants.{Empty};
 
 use crate::fault::FormulaFault;
-use crate::frames::{Frame, Group, Operand, Reach, Settled, Step, Turn};
+use crate::frames::{AfterPart, Frame, Group, Operand, Reach, Step, Turn};
 use crate::lexemes::Lexeme;
-use crate::make::{joined1, joined2, settled, wholly};
+use crate::make::{after_part, joined1, joined2, wholly};
 use crate::names::{goes_on, reach, sign_of};
 use crate::signs::Sign;
 use abc_num::{Items, Names, Stack};
@@ -104,26 +104,26 @@ impl Reader {
     /// The last operand of a group, at the sign behind it.
     fn reduce(&mut self, least: u8, group: Group, sign: Sign, a: Expr) -> Result<Step, FormulaFault>
         requires counted { self.old.left + opens (Inside least group ∷ self.old.stack) ≤ self.old.most }
-        ensures steps { (here : List Lexeme) → Steps here (λ next. settles (settled group sign a) next self.old.left self.old.stack least here) result self.new.left self.new.stack }
+        ensures steps { (here : List Lexeme) → Steps here (λ next. go_on_after (after_part group sign a) next self.old.left self.old.stack least here) result self.new.left self.new.stack }
         ensures counts { Counts self.old.most result self.new.left self.new.stack }
         ensures most { self.new.most ≡ self.old.most }
     {
-        match settled(self.alloc, group, sign, a)? {
-            Settled::Goes(group) => {
+        match after_part(self.alloc, group, sign, a)? {
+            AfterPart::Goes(group) => {
                 self.stack.push(Frame::Inside(least, group))?;
                 Ok(Step::Goes(Turn::Wants(1)))
             }
-            Settled::Gives(a) => {
+            AfterPart::Gives(a) => {
                 self.left += 1;
                 Ok(Step::Goes(Turn::Has(least, 10, a)))
             }
-            Settled::Keyed(pairs, key) => {
+            AfterPart::Keyed(pairs, key) => {
                 self.left += 1;
                 Ok(Step::Goes(Turn::Colon(least, pairs, key)))
             }
-            Settled::Again(pairs) => Ok(Step::Goes(Turn::Pair(least, pairs))),
-            Settled::Stops(a) => Ok(Step::Stops(a)),
-            Settled::Wrong => Err(FormulaFault::BadCommand),
+            AfterPart::Again(pairs) => Ok(Step::Goes(Turn::Pair(least, pairs))),
+            AfterPart::Stops(a) => Ok(Step::Stops(a)),
+            AfterPart::Wrong => Err(FormulaFault::BadCommand),
         }
     }
 

@@ -1,13 +1,12 @@
 -- What is round a line, below another one.
-use Rattle.std.proofs.Common.{◌≡◌, ◌≤◌, ◌<◌, ℕ, Bool, true, false, cond, List, [], ◌∷◌, Option, Some, None, refl, ap, sym, ◌∙◌, arith}
-use Rattle.std.specs.Prelude.{nat_lt, ◌&&◌, if◌then◌else◌}
+use Rattle.std.proofs.Common.{◌≡◌, ◌≤◌, ◌<◌, ℕ, Bool, true, false, cond, List, [], ◌∷◌, refl, ap, ◌∙◌, arith}
+use Rattle.std.specs.Prelude.{nat_lt, if◌then◌else◌}
 use Rattle.std.proofs.lemmas.Bool.{lt-ltb, ltb-true}
 use Rattle.abc_outline.specs.declared.edges.Edges.{Edges}
-use Rattle.abc_outline.specs.declared.edges.Role.{Role}
 use Rattle.abc_outline.specs.declared.edges.Role.TheVariants as role
 use Rattle.abc_outline.specs.declared.edges.Setting.{Setting}
 use Rattle.abc_outline.specs.declared.edges.Standing.{Standing}
-use Rattle.abc_outline.specs.Outline.{left, chain, around, is_chosen, opens_select, role_by, role_of, first_role, may_be_heading, suites_below, suites, standing}
+use Rattle.abc_outline.specs.Outline.{left, chain, around, is_chosen, opens_select, role_of, first_role, may_be_heading, standing}
 use Rattle.abc_faults.specs.Causes.{is_alternative}
 
 pub not_lt : (n m : ℕ) → m ≤ n → nat_lt n m ≡ false

@@ -1,12 +1,11 @@
 -- What is found of a line, and what is kept of the lines above.
-use Rattle.std.proofs.Common.{◌≡◌, ◌≤◌, ◌<◌, ◌+◌, ℕ, suc, Bool, true, false, List, [], ◌∷◌, ◌++◌, length, map, Option, Some, None, refl, ap, sym, ◌∙◌, subst, arith, append_assoc, inl, inr}
-use Rattle.std.specs.Prelude.{nat_lt, ◌||◌, ◌&&◌, if◌then◌else◌, ◌==◌}
+use Rattle.std.proofs.Common.{◌≡◌, ◌≤◌, ◌+◌, ℕ, suc, Bool, true, false, List, [], ◌∷◌, ◌++◌, length, Option, Some, None, refl, ap, sym, ◌∙◌, subst, arith, append_assoc, inl, inr}
+use Rattle.std.specs.Prelude.{◌||◌, ◌&&◌, if◌then◌else◌, ◌==◌}
 use Rattle.std.proofs.lemmas.Bool.{ne_eqb}
 use Rattle.std.proofs.lemmas.List.{append-nil}
 use Rattle.abc_num.specs.declared.limits.TheConstants.{MOST_LINES}
 use Rattle.abc_expressions.specs.Addresses.{each_once}
 use Rattle.abc_expressions.specs.NameTokens.{own_among}
-use Rattle.abc_outline.specs.declared.edges.Edges.{Edges}
 use Rattle.abc_outline.specs.declared.edges.Place.{Place}
 use Rattle.abc_outline.specs.declared.edges.Role.{Role}
 use Rattle.abc_outline.specs.declared.naming.LineNames.{LineNames}

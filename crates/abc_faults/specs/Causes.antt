@@ -1,5 +1,5 @@
 -- What is wrong with a line, kind by kind.
-use Rattle.std.specs.Prelude.{ℕ, ◌+◌, Bool, true, false, not, ◌&&◌, ◌||◌, ◌==◌, nat_lt, nat_le, List, [], ◌∷◌, length, Option, Some, None, is_none, Result, Ok, Err, codes, slice_get, if◌then◌else◌}
+use Rattle.std.specs.Prelude.{ℕ, ◌+◌, Bool, true, false, not, ◌&&◌, ◌||◌, ◌==◌, nat_lt, nat_le, List, [], ◌∷◌, length, Option, Some, None, is_none, Result, Ok, Err, codes, if◌then◌else◌}
 use Rattle.abc_num.specs.declared.limits.TheConstants.{MOST_LINES, MOST_NAMES, MOST_FORMALS, MOST_SUITES}
 use Rattle.abc_tokens.specs.declared.kinds.TokenFault.{TokenFault}
 use Rattle.abc_tokens.specs.declared.kinds.TokenFault.TheVariants as token

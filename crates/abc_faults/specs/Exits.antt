@@ -1,5 +1,5 @@
 -- How a line may leave what it stands in.
-use Rattle.std.specs.Prelude.{ℕ, Bool, true, false, not, List, Option, Some, None, option_map, slice_get}
+use Rattle.std.specs.Prelude.{Bool, true, false, not, List, Option, Some, None, option_map, slice_get}
 use Rattle.abc_tree.specs.declared.commands.Action.{Action}
 use Rattle.abc_tree.specs.declared.commands.Alternative.{Alternative}
 use Rattle.abc_tree.specs.declared.commands.ActionNode.{ActionNode, out-ActionNode}

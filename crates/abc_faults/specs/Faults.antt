@@ -1,5 +1,5 @@
 -- The fault of an item: the first faulty line, with the first fault there.
-use Rattle.std.specs.Prelude.{◌≡◌, ℕ, ◌+◌, ◌<◌, ◌≤◌, ◌⊎◌, Bool, true, List, [], ◌∷◌, length, Option, Some, None, option_map, if◌then◌else◌}
+use Rattle.std.specs.Prelude.{◌≡◌, ℕ, ◌+◌, ◌<◌, ◌≤◌, ◌⊎◌, true, List, [], ◌∷◌, length, Option, Some, None, option_map, if◌then◌else◌}
 use Rattle.abc_num.specs.declared.lines.Line.{Line}
 use Rattle.abc_outline.specs.declared.rows.Row.{Row}
 use Rattle.abc_faults.specs.declared.facts.Facts.{Facts}

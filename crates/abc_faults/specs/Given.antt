@@ -1,5 +1,5 @@
 -- The heading of a function or predicate with a predefined name.
-use Rattle.std.specs.Prelude.{ℕ, Bool, true, false, not, ◌&&◌, List, [], ◌∷◌}
+use Rattle.std.specs.Prelude.{Bool, true, false, not, ◌&&◌, [], ◌∷◌}
 use Rattle.std.specs.List.{list_any}
 use Rattle.abc_tree.specs.Regular.{is_command}
 use Rattle.abc_tree.specs.declared.templates.Word.{Word}

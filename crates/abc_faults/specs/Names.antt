@@ -1,5 +1,5 @@
 -- The names of the lines above, and when a name gets a second role.
-use Rattle.std.specs.Prelude.{ℕ, Bool, true, false, ◌||◌, List, [], ◌∷◌, is_some}
+use Rattle.std.specs.Prelude.{ℕ, Bool, false, ◌||◌, List, [], ◌∷◌, is_some}
 use Rattle.std.specs.List.{list_any}
 use Rattle.abc_num.specs.Names.{number_of, with_name}
 use Rattle.abc_expressions.specs.Addresses.{each_once}

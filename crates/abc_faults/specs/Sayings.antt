@@ -1,5 +1,5 @@
 -- What the lines of an item say.
-use Rattle.std.specs.Prelude.{◌≡◌, List, [], ◌∷◌, Option, Some}
+use Rattle.std.specs.Prelude.{◌≡◌, List, [], ◌∷◌, Some}
 use Rattle.abc_clauses.specs.declared.clause.Clause.{Clause}
 use Rattle.abc_outline.specs.declared.rows.Row.{Row}
 use Rattle.abc_faults.specs.declared.facts.Facts.{Facts}

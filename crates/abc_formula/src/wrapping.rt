@@ -1,4 +1,4 @@
-//! The test that waiting frames make of the one behind them.
+//! Builds a test of the last one that was read and of the frames that wait for it: NOT, AND, OR and quantifiers.
 ghost use Rattle.std.specs.Prelude.{◌≡◌, IfOk};
 ghost use Rattle.abc_formula.specs.inner.TestSteps.{fold_test, wrapped_by};
 ghost use Rattle.abc_tree.specs.declared.formulas.Test.TheVariants.{And, Or};

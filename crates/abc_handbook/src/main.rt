@@ -1,13 +1,14 @@
 //! Runs the examples of the pages that its words name, each page on a store of its own in memory, and compares what is answered with
 //! what stands behind each. A word NAME.abc is one example, whose answer stands in NAME.answer. Prints a line for each word, or the
-//! first answer that is not as it is written.
+//! first answer that is not as it is written. A word made=N is the made input that puts N values: its summary is printed.
 #![tactic(auto)]
 
 mod blocks;
 mod running;
 
+use abc_session::COMPLETE;
 use blocks::{Example, Page};
-use running::run_example;
+use running::{run_example, run_made};
 use std::alloc::AllocError;
 use std::{env, fs, io};
 use thiserror::Error;
@@ -19,6 +20,8 @@ enum Fault {
     Differs,
     #[error("an example has no answer")]
     Unanswered,
+    #[error("a made input has no summary")]
+    Unmade,
     #[error(transparent)]
     Io(#[from] io::Error),
 }
@@ -77,14 +80,32 @@ fn run_file(rt: &HostRuntime, name: &str, stem: &str) -> Result<(), Fault> {
     Ok(println!(rt; "{name}: as written")?)
 }
 
+/// Prints the summary of the made input that puts so many values.
+fn tell_made(rt: &HostRuntime, count: &str) -> Result<(), Fault> {
+    let ran = run_made(rt.alloc(), count)?;
+    if ran.status != COMPLETE {
+        return Err(Fault::Unmade);
+    }
+    let summary = str::from_utf8(&ran.said).unwrap_or_default();
+    Ok(print!(rt; "{summary}")?)
+}
+
+/// Does what a word of the call asks for.
+fn take_word(rt: &HostRuntime, word: &str) -> Result<(), Fault> {
+    if let Some(count) = word.strip_prefix("made=") {
+        return tell_made(rt, count);
+    }
+    match word.strip_suffix(".abc") {
+        Some(stem) => run_file(rt, word, stem),
+        None => run_page(rt, word),
+    }
+}
+
 fn main(rt: HostRuntime) -> Result<(), Fault> {
     let mut words = env::args(&rt)?;
     let _name = words.next();
     for word in words {
-        match word.strip_suffix(".abc") {
-            Some(stem) => run_file(&rt, &word, stem)?,
-            None => run_page(&rt, &word)?,
-        }
+        take_word(&rt, &word)?;
     }
     Ok(())
 }

@@ -37,6 +37,16 @@ fn words_of<'a>(
     Ok(words)
 }
 
+/// What a run with these words leaves.
+fn run_over(alloc: Global, words: &[&str], mut host: MemoryHost) -> Result<Ran, AllocError> {
+    let status = run(alloc, words, &mut host);
+    Ok(Ran {
+        status,
+        said: host.said().to_vec(alloc)?,
+        image: host.image().to_vec(alloc)?,
+    })
+}
+
 /// Runs the example on a store with this image.
 pub(crate) fn run_example(
     alloc: Global,
@@ -45,11 +55,12 @@ pub(crate) fn run_example(
     example: &Example,
 ) -> Result<Ran, AllocError> {
     let words = words_of(alloc, page, example)?;
-    let mut host = MemoryHost::new(alloc, image, example.typed.as_bytes().to_vec(alloc)?);
-    let status = run(alloc, &words, &mut host);
-    Ok(Ran {
-        status,
-        said: host.said().to_vec(alloc)?,
-        image: host.image().to_vec(alloc)?,
-    })
+    let host = MemoryHost::new(alloc, image, example.typed.as_bytes().to_vec(alloc)?);
+    run_over(alloc, words.as_slice(), host)
+}
+
+/// Runs the made input that puts so many values. What is said is its summary.
+pub(crate) fn run_made(alloc: Global, count: &str) -> Result<Ran, AllocError> {
+    let host = MemoryHost::new(alloc, Vec::new(alloc), Vec::new(alloc));
+    run_over(alloc, &["--make", count], host)
 }

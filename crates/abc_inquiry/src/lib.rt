@@ -7,6 +7,3 @@ mod writing;
 
 pub use answering::{Answered, answer_environment};
 pub use laws::{asked_can_be_spelled, dropped_units_are_gone, dropping_keeps_within_limits};
-
-#[cfg(test)]
-mod tests;

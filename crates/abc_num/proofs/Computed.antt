@@ -46,16 +46,16 @@ by_test s x y true t h i none = absurd (none (fraction (signed s x) y) (number-f
 by_test s x y false t h i none = refl
 
 -- in lowest terms
-settled : (s : Bool) (x y : ℕ) (r : Result Fraction NumFault) → 0 < y → IsGcd x y 1 → IsRatio (signed s x) (pos y) r → r ≡ number_or_overflow s x y
+ratio_of_bounded : (s : Bool) (x y : ℕ) (r : Result Fraction NumFault) → 0 < y → IsGcd x y 1 → IsRatio (signed s x) (pos y) r → r ≡ number_or_overflow s x y
 unfolding IsRatio
-settled s x y (Ok n) h i v =
+ratio_of_bounded s x y (Ok n) h i v =
     let p = only_parts s x y n h i v.0 v.1 in
     let b = bounds n v.0 in
     let test : are_within x y ≡ true = within_parts x y (omega (arith, p.0, b.0)) (omega (arith, p.1, b.1)) (λ k. let m = b.2 (λ e. k (sym p.1 ∙ e)) in omega (arith, p.0)) in
     let top : n.numerator ≡ signed s x = cancel (pos y) n.numerator (signed s x) (pos_ne y h) (v.1 ∙ ap (λ d. signed s x *ℤ pos d) p.1) in
     let same : n ≡ fraction (signed s x) y = λ j. record { numerator = top j; denominator = p.1 j } in
     ap Ok same ∙ ap (λ t. if t then Ok (fraction (signed s x) y) else Err Overflow) (sym test)
-settled s x y (Err f) h i v =
+ratio_of_bounded s x y (Err f) h i v =
     ap Err v.0 ∙ ap (λ t. if t then Ok (fraction (signed s x) y) else Err Overflow) (sym (by_test s x y (are_within x y) refl h i v.1))
 
 size_pos : (b : ℤ) → b ≢ pos 0 → 0 < unsigned_abs b
@@ -100,14 +100,14 @@ ratio_is a b r h v =
     let i = gcd_is m n in
     let n_pos = size_pos b h in
     let y_pos = factor_positive (n / g) g n (div-mul_cancel g i.1) n_pos in
-    settled (differ s t) (m / g) (n / g) r y_pos (parts_coprime m n g n_pos i)
+    ratio_of_bounded (differ s t) (m / g) (n / g) r y_pos (parts_coprime m n g n_pos i)
     (IsRatio-same a b (signed (differ s t) (m / g)) (pos (n / g)) r h (pos_ne (n / g) y_pos) (reduced_value a b) v)
 
 -- in lowest terms, the number that is computed, or that there is none
-settles : (s : Bool) (x y : ℕ) (b : Bool) → are_within x y ≡ b → 0 < y → IsGcd x y 1
+bounded_is_ratio : (s : Bool) (x y : ℕ) (b : Bool) → are_within x y ≡ b → 0 < y → IsGcd x y 1
     → IsRatio (signed s x) (pos y) (if b then Ok (fraction (signed s x) y) else Err Overflow)
-settles s x y true t h i = IsRatio-ok (signed s x) (pos y) (fraction (signed s x) y) (number-from_parts s x y (parts_within x y h i t)) refl
-settles s x y false t h i = IsRatio-none (signed s x) (pos y) (too_great s x y h i wide narrow)
+bounded_is_ratio s x y true t h i = IsRatio-ok (signed s x) (pos y) (fraction (signed s x) y) (number-from_parts s x y (parts_within x y h i t)) refl
+bounded_is_ratio s x y false t h i = IsRatio-none (signed s x) (pos y) (too_great s x y h i wide narrow)
   where
     wide : y ≡ 1 → x < 2 ^ 127 → ⊥
     wide e l = let k : are_within x y ≡ true = within_parts x y l (omega (arith, e)) (λ n. absurd (n e)) in cc
@@ -128,7 +128,7 @@ ratio_has_value a b h =
     let y_pos = factor_positive (n / g) g n (div-mul_cancel g i.1) n_pos in
     let e : a *ℤ pos (n / g) ≡ signed (differ s t) (m / g) *ℤ b = reduced_value a b in
     IsRatio-same (signed (differ s t) (m / g)) (pos (n / g)) a b _ (pos_ne (n / g) y_pos) h (sym e)
-    (settles (differ s t) (m / g) (n / g) (are_within (m / g) (n / g)) refl y_pos (parts_coprime m n g n_pos i))
+    (bounded_is_ratio (differ s t) (m / g) (n / g) (are_within (m / g) (n / g)) refl y_pos (parts_coprime m n g n_pos i))
 
 pub is_ratio : (a b : ℤ) (r : Result Fraction NumFault) → b ≢ pos 0 → r ≡ ratio a b → IsRatio a b r
 is_ratio a b r h e = subst (IsRatio a b) (sym e) (ratio_has_value a b h)

@@ -5,7 +5,7 @@ ghost use Rattle.abc_num.specs.Ratio.{IsRatio};
 ghost use Rattle.abc_num.specs.Operations.{IsSum, IsDifference, IsProduct, IsQuotient, IsRest};
 
 use crate::number::Parts;
-use crate::reduce::{lowest, product, settle};
+use crate::reduce::{bounded, lowest, product};
 use crate::{Num, NumFault};
 
 impl Num {
@@ -141,7 +141,7 @@ fn far_rest(x: Parts, y: Parts) -> Result<Num, NumFault>
         (fraction (signed y.negative y.top) y.bottom) result }
 {
     if x.negative == y.negative {
-        settle(x.negative, x.top, x.bottom)
+        bounded(x.negative, x.top, x.bottom)
     } else {
         Err(NumFault::Overflow)
     }

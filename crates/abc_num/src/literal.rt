@@ -4,7 +4,7 @@ ghost use Rattle.abc_num.specs.Literal.{IsDigit, IsNumberToken, SpellsFraction, 
 ghost use Rattle.abc_num.specs.Ratio.{HasValue, IsNoNumber, IsRatio};
 
 use crate::number::Parts;
-use crate::reduce::{gcd, settle};
+use crate::reduce::{bounded, gcd};
 use crate::{Num, NumFault};
 
 /// The value of a spelling is no number.
@@ -71,7 +71,7 @@ fn read_parts(front: &[u8], decimals: &[u8]) -> Result<Num, NumFault>
     let Some(top) = top.checked_add(rest.top) else {
         return Err(NumFault::Overflow);
     };
-    settle(false, top, rest.bottom)
+    bounded(false, top, rest.bottom)
 }
 
 /// The fraction that these decimals spell, in lowest terms. There is none only where its denominator has more than

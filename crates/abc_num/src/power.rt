@@ -6,7 +6,7 @@ ghost use Rattle.abc_num.specs.Ratio.{IsRatio};
 ghost use Rattle.abc_num.specs.Operations.{IsPower, DividesByZero};
 
 use crate::number::Parts;
-use crate::reduce::settle;
+use crate::reduce::bounded;
 use crate::{Num, NumFault};
 
 impl Num {
@@ -57,9 +57,9 @@ fn power_of_ratio(negative: bool, a: u128, b: u128, exponent: u128) -> Result<Nu
         return Err(NumFault::Overflow);
     };
     if exponent % 2 == 0 {
-        settle(false, top, bottom)
+        bounded(false, top, bottom)
     } else {
-        settle(negative, top, bottom)
+        bounded(negative, top, bottom)
     }
 }
 

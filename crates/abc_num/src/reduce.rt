@@ -20,8 +20,8 @@ pub(crate) fn gcd(a: u128, b: u128) -> u128
     x
 }
 
-/// The number that is `top / bottom`, or its negative, where no divisor is left.
-pub(crate) fn settle(negative: bool, top: u128, bottom: u128) -> Result<Num, NumFault>
+/// The number `top / bottom`, or its negative. Both have no divisor in common.
+pub(crate) fn bounded(negative: bool, top: u128, bottom: u128) -> Result<Num, NumFault>
     requires lowest { IsGcd top bottom 1 }
     requires positive { 0 < bottom }
     ensures { IsRatio (signed negative top) (pos bottom) result }
@@ -44,10 +44,10 @@ pub(crate) fn lowest(negative: bool, a: u128, b: u128) -> Result<Num, NumFault>
     ensures { IsRatio (signed negative a) (pos b) result }
 {
     if b == 1 {
-        return settle(negative, a, 1);
+        return bounded(negative, a, 1);
     }
     let divisor = gcd(a, b);
-    settle(negative, a / divisor, b / divisor)
+    bounded(negative, a / divisor, b / divisor)
 }
 
 /// The number that is `a / b * c / d`, or its negative, where both are in lowest terms.
@@ -69,7 +69,7 @@ pub(crate) fn product(negative: bool, a: u128, b: u128, c: u128, d: u128) -> Res
     let Some(bottom) = (b / right).checked_mul(d / left) else {
         return Err(NumFault::Overflow);
     };
-    settle(negative, top, bottom)
+    bounded(negative, top, bottom)
 }
 
 /// The whole number `a * c`, or its negative.
@@ -79,5 +79,5 @@ fn whole_product(negative: bool, a: u128, c: u128) -> Result<Num, NumFault>
     let Some(size) = a.checked_mul(c) else {
         return Err(NumFault::Overflow);
     };
-    settle(negative, size, 1)
+    bounded(negative, size, 1)
 }

@@ -8,7 +8,7 @@ ghost use Rattle.abc_num.specs.Rounding.{floor_of, nearest_of, away_of};
 ghost use Rattle.abc_num.specs.Operations.{IsRoundedTo};
 
 use crate::number::Parts;
-use crate::reduce::{gcd, settle};
+use crate::reduce::{bounded, gcd};
 use crate::{Num, NumFault};
 
 impl Num {
@@ -60,7 +60,7 @@ fn round_parts(x: Parts, places: i128) -> Result<Num, NumFault>
         return round_to_power(x, size);
     }
     if x.bottom == 1 {
-        return settle(x.negative, x.top, 1);
+        return bounded(x.negative, x.top, 1);
     }
     round_to_places(x, size)
 }
@@ -98,7 +98,7 @@ fn round_to_places(x: Parts, places: u128) -> Result<Num, NumFault>
     // A number that is not `x` and so near to it has a denominator past 63 bits.
     if places > 37 {
         return if divides_power(x.bottom, places) {
-            settle(x.negative, x.top, x.bottom)
+            bounded(x.negative, x.top, x.bottom)
         } else {
             Err(NumFault::Overflow)
         };
@@ -124,7 +124,7 @@ fn with_whole(negative: bool, whole: u128, a: u128, b: u128) -> Result<Num, NumF
     if bottom >= 1 << 63 {
         return Err(NumFault::Overflow);
     }
-    settle(negative, whole * bottom + a / divisor, bottom)
+    bounded(negative, whole * bottom + a / divisor, bottom)
 }
 
 /// The first decimals of a fraction: `digits / power`, and what is left of it over the same denominator.
@@ -191,14 +191,14 @@ fn round_to_power(x: Parts, places: u128) -> Result<Num, NumFault>
 {
     // Half of 10^39 is past each number.
     if places > 38 {
-        return settle(false, 0, 1);
+        return bounded(false, 0, 1);
     }
     let power = power_of_ten(places);
     let whole = x.top / x.bottom;
-    // Behind half of the power a fraction that is left makes more than half.
+    // At exactly half of the power, a fraction that is left makes it more than half.
     let exact = x.top % x.bottom == 0;
     let away = is_away(x.negative && exact, whole % power, power);
-    settle(x.negative, (whole / power + u128::from(away)) * power, 1)
+    bounded(x.negative, (whole / power + u128::from(away)) * power, 1)
 }
 
 fn power_of_ten(places: u128) -> u128

@@ -3,7 +3,6 @@ ghost use Rattle.std.specs.Prelude.{◌≡◌, IfOk};
 
 mod lines;
 mod numbers;
-mod operations;
 
 use crate::*;
 use std::alloc::Global;

@@ -18,6 +18,3 @@ pub use laws::{
     accepted_commands_are_never_wrong, missing_is_least, no_reply_is_empty, outcomes_are_steady,
     refusals_change_nothing, type_lines_are_one,
 };
-
-#[cfg(test)]
-mod tests;

@@ -1,4 +1,4 @@
-//! What a literal is read of, and what was read and is not yet whole.
+//! What the machine that reads literals takes, lexeme by lexeme, and what stands on its stack.
 
 use abc_num::Items;
 use abc_value::Value;

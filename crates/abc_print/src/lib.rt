@@ -1,4 +1,4 @@
-//! Values as texts, and texts as values.
+//! Reads literals as values; gives out the printing of abc_value.
 #![tactic(auto)]
 
 mod faults;

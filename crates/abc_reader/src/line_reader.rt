@@ -97,8 +97,8 @@ impl LineReader {
         self.bound
     }
 
-    /// Moves the pending bytes into the line, up to the LF that ends it. True where there is one.
-    fn take_part(&mut self, line: &mut Gathered) -> Result<bool, LineStop>
+    /// Moves the pending bytes into the line, up to an LF: whether one ends it.
+    fn ends_line(&mut self, line: &mut Gathered) -> Result<bool, LineStop>
         ensures part { IfOk result (λ found. TookPart (pending_of self.old) (pending_of self.new) (shown line.old) (shown line.new) found) }
         ensures used { result ≡ Ok true → used_of self.old < used_of self.new }
         ensures no_fewer { used_of self.old ≤ used_of self.new }
@@ -231,7 +231,7 @@ impl LineReader {
     {
         let mut line = Gathered::new(self.alloc);
         'pieces: loop {
-            if self.take_part(&mut line)? {
+            if self.ends_line(&mut line)? {
                 return Ok(Some(line.finish()));
             }
             if self.ended {

@@ -2,6 +2,8 @@ mod Saying
 mod Stops
 mod Broken
 mod Items
+mod Told
+mod Exact
 mod TurnsServed
 mod Places
 mod Turns

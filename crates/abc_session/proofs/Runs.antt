@@ -18,11 +18,12 @@ use Rattle.abc_store.specs.Commit.{Work, Holds}
 use Rattle.abc_store.specs.Laws.{OpensToOne}
 use Rattle.abc_store.proofs.Images.{opens_extended}
 use Rattle.abc_turns.specs.Stops.{IsBetween, IsBroken, IsCutShort}
-use Rattle.abc_outcome.specs.Checks.{Check}
-use Rattle.abc_session.specs.Session.{session_of}
+use Rattle.abc_session.specs.Session.{Told, session_of}
+use Rattle.abc_session.specs.Told.{WithTold}
+use Rattle.abc_session.proofs.Told.{with_weaker}
 use Rattle.abc_session.specs.Settled.{IsWaiting}
 use Rattle.abc_session.specs.Serving.{OpensTo, IsSessionPoint, IsStill}
-use Rattle.abc_session.specs.Run.{store_in, store_named, IsStart, HasEnded, IsComplete, StandsSo}
+use Rattle.abc_session.specs.Run.{store_in, store_named, IsStart, HasEnded, IsWhole, IsComplete, StandsSo}
 
 layout_settled : (image : List ℕ) → layout_of (settled_image image) ≡ layout_of image
 unfolding layout_of opened
@@ -67,14 +68,21 @@ same_input quit bound old mid new same h = h
 same_input waiting bound old mid new same h = h
 
 -- so is a complete run
-pub same_complete : (check : Check) (bounds : Bounds) (steps : ℕ) (old mid new : Outside) → mid.image ≡ old.image → mid.left ≡ old.left → mid.said ≡ old.said → IsComplete check bounds steps mid new → IsComplete check bounds steps old new
-same_complete check bounds steps old mid new same_image same_left same_said p = record {
+pub same_whole : (types : Told) (bounds : Bounds) (steps : ℕ) (start : Work) (old mid new : Outside) → mid.left ≡ old.left → mid.said ≡ old.said → IsWhole types bounds steps start mid new → IsWhole types bounds steps start old new
+same_whole types bounds steps start old mid new same_left same_said p = record {
+  said = p.said ∙ ap (λ (t : List ℕ). t ++ output (session_of types bounds steps start mid.left)) same_said ∙ ap (λ (l : List ℕ). old.said ++ output (session_of types bounds steps start l)) same_left;
+  holds = subst (λ (l : List ℕ). Holds new.image (last_work start (session_of types bounds steps start l))) same_left p.holds;
+  ended = subst (λ (l : List ℕ). HasEnded (session_of types bounds steps start l).ending bounds.input old new) same_left
+      (same_input (session_of types bounds steps start mid.left).ending bounds.input old mid new same_left p.ended);
+}
+
+pub same_complete : (bounds : Bounds) (steps : ℕ) (old mid new : Outside) → mid.image ≡ old.image → mid.left ≡ old.left → mid.said ≡ old.said → IsComplete bounds steps mid new → IsComplete bounds steps old new
+same_complete bounds steps old mid new same_image same_left same_said p = record {
   start = p.start;
   is_start = subst (λ (i : List ℕ). IsStart i p.start) same_image p.is_start;
-  said = p.said ∙ ap (λ (t : List ℕ). t ++ output (session_of check bounds steps p.start mid.left)) same_said ∙ ap (λ (l : List ℕ). old.said ++ output (session_of check bounds steps p.start l)) same_left;
-  holds = subst (λ (l : List ℕ). Holds new.image (last_work p.start (session_of check bounds steps p.start l))) same_left p.holds;
-  ended = subst (λ (l : List ℕ). HasEnded (session_of check bounds steps p.start l).ending bounds.input old new) same_left
-      (same_input (session_of check bounds steps p.start mid.left).ending bounds.input old mid new same_left p.ended);
+  whole = subst (λ (l : List ℕ). WithTold bounds steps p.start l (λ types. IsWhole types bounds steps p.start old new)) same_left
+      (with_weaker bounds steps p.start mid.left (λ types. IsWhole types bounds steps p.start mid new) (λ types. IsWhole types bounds steps p.start old new)
+      (λ types w. same_whole types bounds steps p.start old mid new same_left same_said w) p.whole);
 }
 
 -- while the store is opened every stop leaves the work of the start
@@ -150,12 +158,12 @@ pub choice_now : {H : Type 0} (clock : H → ℕ) (stopped : H → ℕ → List 
 choice_now clock stopped old mid image work still start stop c s now = subst (λ (i : List ℕ). OpensTo i work) (sym (still c s (stop c s now))) start.kept
 
 -- what stands is so of the input and the said bytes at the start
-pub same_stands : (check : Check) (bounds : Bounds) (steps : ℕ) (work : Work) (old mid new : Outside) (now : List ℕ → List ℕ → Type 0) (status : ℕ) → mid.left ≡ old.left → mid.said ≡ old.said → StandsSo check bounds steps work mid new now status → StandsSo check bounds steps work old new now status
-same_stands check bounds steps work old mid new now status same_left same_said p = record {
-  waiting = λ is. same_choice (λ l t. IsWaiting check bounds steps work l t new now) old.left mid.left old.said mid.said same_left same_said (p.waiting is);
-  between = λ is. same_choice (λ l t. IsBetween OpensTo (works work (session_of check bounds steps work l)) (replies (session_of check bounds steps work l)) t new.said now) old.left mid.left old.said mid.said same_left same_said (p.between is);
-  broken = λ is. same_choice (λ l t. IsBroken OpensTo (works work (session_of check bounds steps work l)) (replies (session_of check bounds steps work l)) t new.said now) old.left mid.left old.said mid.said same_left same_said (p.broken is);
-  cut_short = λ is. same_choice (λ l t. IsCutShort OpensTo (works work (session_of check bounds steps work l)) (replies (session_of check bounds steps work l)) t new.said now) old.left mid.left old.said mid.said same_left same_said (p.cut_short is);
+pub same_stands : (bounds : Bounds) (steps : ℕ) (work : Work) (old mid new : Outside) (now : List ℕ → List ℕ → Type 0) (status : ℕ) → mid.left ≡ old.left → mid.said ≡ old.said → StandsSo bounds steps work mid new now status → StandsSo bounds steps work old new now status
+same_stands bounds steps work old mid new now status same_left same_said p = record {
+  waiting = λ is. same_choice (λ l t. WithTold bounds steps work l (λ types. IsWaiting types bounds steps work l t new now)) old.left mid.left old.said mid.said same_left same_said (p.waiting is);
+  between = λ is. same_choice (λ l t. WithTold bounds steps work l (λ types. IsBetween OpensTo (works work (session_of types bounds steps work l)) (replies (session_of types bounds steps work l)) t new.said now)) old.left mid.left old.said mid.said same_left same_said (p.between is);
+  broken = λ is. same_choice (λ l t. WithTold bounds steps work l (λ types. IsBroken OpensTo (works work (session_of types bounds steps work l)) (replies (session_of types bounds steps work l)) t new.said now)) old.left mid.left old.said mid.said same_left same_said (p.broken is);
+  cut_short = λ is. same_choice (λ l t. WithTold bounds steps work l (λ types. IsCutShort OpensTo (works work (session_of types bounds steps work l)) (replies (session_of types bounds steps work l)) t new.said now)) old.left mid.left old.said mid.said same_left same_said (p.cut_short is);
 }
 
 -- words name one store and one input

@@ -14,10 +14,9 @@ use Rattle.abc_num.specs.declared.lines.RawLine.{RawLine}
 use Rattle.abc_reader.specs.Items.{next_item}
 use Rattle.abc_store.specs.Commit.{Work, Holds}
 use Rattle.abc_store.proofs.Images.{opens_extended}
-use Rattle.abc_outcome.specs.Checks.{Check}
 use Rattle.abc_outcome.specs.Outcome.{Outcome}
 use Rattle.abc_outcome.specs.Answers.{behind_at}
-use Rattle.abc_session.specs.Session.{outcome, item_came, session_from}
+use Rattle.abc_session.specs.Session.{Told, outcome, item_came, session_from}
 use Rattle.abc_session.specs.Serving.{OpensTo, IsSessionPoint, IsItemStop}
 use Rattle.abc_session.specs.Place.{Place, input_ends, lines_left, session_at, WasCut}
 use Rattle.abc_session.proofs.Items.{unless_quit, by_quit, came_session}
@@ -43,21 +42,21 @@ take_none zero = refl
 take_none (suc n) = refl
 
 -- An item was read at a place, which led to another, and it is served there.
-module _ (check : Check) (bounds : Bounds) (steps : ℕ) (place mid : Place) (item : List Line) (is : next_item (input_ends place) (lines_left place) ≡ whole_item item (lines_left mid)) (ends_same : input_ends mid ≡ input_ends place)
+module _ (types : Told) (bounds : Bounds) (steps : ℕ) (place mid : Place) (item : List Line) (is : next_item (input_ends place) (lines_left place) ≡ whole_item item (lines_left mid)) (ends_same : input_ends mid ≡ input_ends place)
     (number : mid.served ≡ suc place.served) (kept : mid.work ≡ place.work) (same : mid.said ≡ place.said) where
   abbrev out : Outcome
-  out = outcome check bounds steps mid.served mid.work item (behind_at mid.reading mid.left)
+  out = outcome types bounds steps mid.served mid.work item (behind_at mid.reading mid.left)
 
   abbrev later : Work → List RawLine → Session Work
-  later v rest = session_from check bounds steps (input_ends place) (suc (suc place.served)) v rest
+  later v rest = session_from types bounds steps (input_ends place) (suc (suc place.served)) v rest
 
   -- the session by what the item comes to
-  session_is : (o : Outcome) → out ≡ o → session_at check bounds steps place ≡ on_came o later
+  session_is : (o : Outcome) → out ≡ o → session_at types bounds steps place ≡ on_came o later
   session_is o comes =
-      came_session check bounds steps (input_ends place) (suc place.served) place.work (lines_left place) item (lines_left mid) is o
-      (ap (λ n. item_came check bounds steps (input_ends place) n place.work item (lines_left mid)) (sym number)
-      ∙ ap (λ w. item_came check bounds steps (input_ends place) mid.served w item (lines_left mid)) (sym kept)
-      ∙ ap (λ e. item_came check bounds steps e mid.served mid.work item (lines_left mid)) (sym ends_same) ∙ comes)
+      came_session types bounds steps (input_ends place) (suc place.served) place.work (lines_left place) item (lines_left mid) is o
+      (ap (λ n. item_came types bounds steps (input_ends place) n place.work item (lines_left mid)) (sym number)
+      ∙ ap (λ w. item_came types bounds steps (input_ends place) mid.served w item (lines_left mid)) (sym kept)
+      ∙ ap (λ e. item_came types bounds steps e mid.served mid.work item (lines_left mid)) (sym ends_same) ∙ comes)
 
   -- a stop in the item is one in the session
   point_by : (o : Outcome) (s : Session Work) → s ≡ on_came o later → (c t : List ℕ) → IsItemStop place.work o place.said c t → IsSessionPoint place.work s place.said c t
@@ -71,8 +70,8 @@ module _ (check : Check) (bounds : Bounds) (steps : ℕ) (place mid : Place) (it
       subst (λ x. IsSessionPoint place.work x place.said c t) (sym is)
       (point_start OpensTo (works place.work (ends waiting)) [] place.said c t (p.front ∙ ap (λ (l : List ℕ). place.said ++ l) (take_none p.count) ∙ append-nil place.said) p.image)
 
-  stop_point : (c t : List ℕ) → IsItemStop mid.work out mid.said c t → IsSessionPoint place.work (session_at check bounds steps place) place.said c t
-  stop_point c t stop = point_by out (session_at check bounds steps place) (session_is out refl) c t (subst (λ w. IsItemStop w out place.said c t) kept (subst (λ l. IsItemStop mid.work out l c t) same stop))
+  stop_point : (c t : List ℕ) → IsItemStop mid.work out mid.said c t → IsSessionPoint place.work (session_at types bounds steps place) place.said c t
+  stop_point c t stop = point_by out (session_at types bounds steps place) (session_is out refl) c t (subst (λ w. IsItemStop w out place.said c t) kept (subst (λ l. IsItemStop mid.work out l c t) same stop))
 
   -- the image opens to the work before the item, or to the one after it
   opens_by : (o : Outcome) (s : Session Work) → s ≡ on_came o later → (c t : List ℕ) → IsItemStop place.work o place.said c t → OpensTo c (works place.work s 0) ⊎ OpensTo c (works place.work s 1)
@@ -84,19 +83,19 @@ module _ (check : Check) (bounds : Bounds) (steps : ℕ) (place mid : Place) (it
   opens_by wants s is c t (in_commit p) = inl (⊎_elim (λ old. old) (λ new. new) p.image)
   opens_by wants s is c t (in_saying p) = inl p.image
 
-  stop_opens : (c t : List ℕ) → IsItemStop mid.work out mid.said c t → OpensTo c (works place.work (session_at check bounds steps place) 0) ⊎ OpensTo c (works place.work (session_at check bounds steps place) 1)
-  stop_opens c t stop = opens_by out (session_at check bounds steps place) (session_is out refl) c t (subst (λ w. IsItemStop w out place.said c t) kept (subst (λ l. IsItemStop mid.work out l c t) same stop))
+  stop_opens : (c t : List ℕ) → IsItemStop mid.work out mid.said c t → OpensTo c (works place.work (session_at types bounds steps place) 0) ⊎ OpensTo c (works place.work (session_at types bounds steps place) 1)
+  stop_opens c t stop = opens_by out (session_at types bounds steps place) (session_is out refl) c t (subst (λ w. IsItemStop w out place.said c t) kept (subst (λ l. IsItemStop mid.work out l c t) same stop))
 
   module _ {H : Type 0} (clock : H → ℕ) (stopped : H → ℕ → List ℕ → List ℕ → Type 0) (host_mid host_new : H) where
     -- its stops are those of the session
-    pub item_stops : (old : H) → Leaves clock stopped old host_mid (IsSessionPoint place.work (session_at check bounds steps place) place.said) → Leaves clock stopped host_mid host_new (IsItemStop mid.work out mid.said)
-        → Leaves clock stopped old host_new (IsSessionPoint place.work (session_at check bounds steps place) place.said)
+    pub item_stops : (old : H) → Leaves clock stopped old host_mid (IsSessionPoint place.work (session_at types bounds steps place) place.said) → Leaves clock stopped host_mid host_new (IsItemStop mid.work out mid.said)
+        → Leaves clock stopped old host_new (IsSessionPoint place.work (session_at types bounds steps place) place.said)
     item_stops old reading serving = run_after clock stopped old host_mid host_new _ _ reading serving stop_point
 
     -- the store failed in it
     pub item_broken : ((host : H) (earlier late : ℕ) (c s : List ℕ) → earlier ≤ late → stopped host late c s → stopped host earlier c s)
         → ((c s : List ℕ) → stopped host_mid (clock host_mid) c s → OpensTo c place.work) → Leaves clock stopped host_mid host_new (IsItemStop mid.work out mid.said) → (said_now : List ℕ) → said_now ≡ mid.said
-        → IsBroken OpensTo (works place.work (session_at check bounds steps place)) (replies (session_at check bounds steps place)) place.said said_now (stopped host_new (clock host_new))
+        → IsBroken OpensTo (works place.work (session_at types bounds steps place)) (replies (session_at types bounds steps place)) place.said said_now (stopped host_new (clock host_new))
     item_broken since opens leaves said_now unsaid = record {
       k = 0;
       among = omega arith;
@@ -105,13 +104,13 @@ module _ (check : Check) (bounds : Bounds) (steps : ℕ) (place mid : Place) (it
     }
 
   -- the sink failed in its reply
-  pub item_cut : (new : Place) (now : List ℕ → List ℕ → Type 0) → WasCut (outcome check bounds steps mid.served mid.work item) mid new → ((c s : List ℕ) → now c s → OpensTo c new.work)
-      → IsCutShort OpensTo (works place.work (session_at check bounds steps place)) (replies (session_at check bounds steps place)) place.said new.said now
+  pub item_cut : (new : Place) (now : List ℕ → List ℕ → Type 0) → WasCut (outcome types bounds steps mid.served mid.work item) mid new → ((c s : List ℕ) → now c s → OpensTo c new.work)
+      → IsCutShort OpensTo (works place.work (session_at types bounds steps place)) (replies (session_at types bounds steps place)) place.said new.said now
   item_cut new now cut opens =
       let reply = cut.answer.reply in
       let rest = unless_quit cut.answer.quit (later new.work (lines_left new)) in
-      let comes = came_here (outcome check bounds steps mid.served mid.work item) mid.reading new.reading mid.left new.left new.work cut.answer cut.answered in
-      let turns : session_at check bounds steps place ≡ then_turn reply new.work rest =
+      let comes = came_here (outcome types bounds steps mid.served mid.work item) mid.reading new.reading mid.left new.left new.work cut.answer cut.answered in
+      let turns : session_at types bounds steps place ≡ then_turn reply new.work rest =
       session_is (came reply new.work (lines_left new) cut.answer.quit) comes ∙ by_quit reply new.work (lines_left new) cut.answer.quit later in
       subst (λ t. IsCutShort OpensTo (works place.work t) (replies t) place.said new.said now) (sym turns) (record {
         k = 0;

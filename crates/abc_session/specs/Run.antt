@@ -14,9 +14,9 @@ use Rattle.abc_reader.specs.Asking.{Asked, AskedRising}
 use Rattle.abc_store.specs.Workspace.{Workspace}
 use Rattle.abc_store.specs.Opening.{Opens}
 use Rattle.abc_store.specs.Commit.{Work, Holds}
-use Rattle.abc_outcome.specs.Checks.{Check, IsExact}
 use Rattle.abc_session.specs.Product.{product_bounds}
-use Rattle.abc_session.specs.Session.{session_of}
+use Rattle.abc_session.specs.Session.{Told, session_of}
+use Rattle.abc_session.specs.Told.{WithTold}
 use Rattle.abc_session.specs.Settled.{AsksSettled, IsWaiting}
 use Rattle.abc_session.specs.Serving.{OpensTo, IsSessionPoint, IsStill, NoneFell, OnlyInputFailed, OnlyStoreFailed, OnlySinkFailed}
 use Rattle.abc_session.specs.declared.status.TheConstants.{COMPLETE, USAGE, INPUT_FAULT, STORE_FAULT, SINK_FAULT, NOT_A_STORE, MEMORY, INPUT_TOO_LONG}
@@ -58,13 +58,17 @@ HasEnded over bound old new = (new.left ≡ []) × (length old.left < bound)
 HasEnded quit bound old new = Unit {0}
 HasEnded waiting bound old new = ⊥
 
--- A complete run: it said the session's whole output, the image holds the last work, and the session ended.
-pub record IsComplete (check : Check) (bounds : Bounds) (steps : ℕ) (old new : Outside) : Type 0 where
+-- By these type lines the session was complete: its whole output was said, the image holds the last work, and the session ended.
+pub record IsWhole (types : Told) (bounds : Bounds) (steps : ℕ) (start : Work) (old new : Outside) : Type 0 where
+  pub said : new.said ≡ old.said ++ output (session_of types bounds steps start old.left)
+  pub holds : Holds new.image (last_work start (session_of types bounds steps start old.left))
+  pub ended : HasEnded (session_of types bounds steps start old.left).ending bounds.input old new
+
+-- A complete run: it started with what the image opens to, and its session was complete.
+pub record IsComplete (bounds : Bounds) (steps : ℕ) (old new : Outside) : Type 0 where
   pub start : Work
   pub is_start : IsStart old.image start
-  pub said : new.said ≡ old.said ++ output (session_of check bounds steps start old.left)
-  pub holds : Holds new.image (last_work start (session_of check bounds steps start old.left))
-  pub ended : HasEnded (session_of check bounds steps start old.left).ending bounds.input old new
+  pub whole : WithTold bounds steps start old.left (λ types. IsWhole types bounds steps start old new)
 
 -- the image, the input, what was said and what was asked are as before
 pub record IsUntouched (old new : Outside) : Type 0 where
@@ -115,29 +119,29 @@ pub record IsNotBegun (start : Work) (old new : Outside) (now : List ℕ → Lis
   pub image : (c s : List ℕ) → now c s → OpensTo c start
 
 -- What stands after each status but 0, 2 and 6, of a session that started with this work.
-pub record StandsSo (check : Check) (bounds : Bounds) (steps : ℕ) (start : Work) (old new : Outside) (now : List ℕ → List ℕ → Type 0) (status : ℕ) : Type 0 where
-  pub waiting : ((status ≡ INPUT_FAULT) ⊎ (status ≡ INPUT_TOO_LONG)) → IsWaiting check bounds steps start old.left old.said new now
-  pub between : status ≡ MEMORY → IsBetween OpensTo (works start (session_of check bounds steps start old.left)) (replies (session_of check bounds steps start old.left)) old.said new.said now
-  pub broken : status ≡ STORE_FAULT → IsBroken OpensTo (works start (session_of check bounds steps start old.left)) (replies (session_of check bounds steps start old.left)) old.said new.said now
-  pub cut_short : status ≡ SINK_FAULT → IsCutShort OpensTo (works start (session_of check bounds steps start old.left)) (replies (session_of check bounds steps start old.left)) old.said new.said now
+pub record StandsSo (bounds : Bounds) (steps : ℕ) (start : Work) (old new : Outside) (now : List ℕ → List ℕ → Type 0) (status : ℕ) : Type 0 where
+  pub waiting : ((status ≡ INPUT_FAULT) ⊎ (status ≡ INPUT_TOO_LONG)) → WithTold bounds steps start old.left (λ types. IsWaiting types bounds steps start old.left old.said new now)
+  pub between : status ≡ MEMORY → WithTold bounds steps start old.left (λ types. IsBetween OpensTo (works start (session_of types bounds steps start old.left)) (replies (session_of types bounds steps start old.left)) old.said new.said now)
+  pub broken : status ≡ STORE_FAULT → WithTold bounds steps start old.left (λ types. IsBroken OpensTo (works start (session_of types bounds steps start old.left)) (replies (session_of types bounds steps start old.left)) old.said new.said now)
+  pub cut_short : status ≡ SINK_FAULT → WithTold bounds steps start old.left (λ types. IsCutShort OpensTo (works start (session_of types bounds steps start old.left)) (replies (session_of types bounds steps start old.left)) old.said new.said now)
 
 -- The line that sums up the session over the made input that puts so many values: it starts with an image without a byte, has the bounds of
 -- the product, and an item may take so many steps.
-pub record IsSummary (check : Check) (count steps : ℕ) (line : List ℕ) : Type 0 where
+pub record IsSummary (count steps : ℕ) (line : List ℕ) : Type 0 where
   pub start : Work
   pub is_start : IsStart [] start
-  pub is : line ≡ summary count (counted (replies (session_of check product_bounds steps start (made_input count))))
+  pub is : WithTold product_bounds steps start (made_input count) (λ types. line ≡ summary count (counted (replies (session_of types product_bounds steps start (made_input count)))))
 
 -- the whole of it was said
-pub record SaidWhole (check : Check) (count steps : ℕ) (said now : List ℕ) : Type 0 where
+pub record SaidWhole (count steps : ℕ) (said now : List ℕ) : Type 0 where
   pub line : List ℕ
-  pub is_summary : IsSummary check count steps line
+  pub is_summary : IsSummary count steps line
   pub said_is : now ≡ said ++ line
 
 -- so many bytes of it were said, and not all of them
-pub record SaidInPart (check : Check) (count steps : ℕ) (said now : List ℕ) : Type 0 where
+pub record SaidInPart (count steps : ℕ) (said now : List ℕ) : Type 0 where
   pub line : List ℕ
-  pub is_summary : IsSummary check count steps line
+  pub is_summary : IsSummary count steps line
   pub bytes : ℕ
   pub short : bytes < length line
   pub said_is : now ≡ said ++ take bytes line
@@ -146,26 +150,26 @@ pub record SaidInPart (check : Check) (count steps : ℕ) (said now : List ℕ) 
 -- and what was chosen are as before, and a stop leaves an image that it might have left before.
 pub record IsMadeRun {H : Type 0} (tells_said : Type 0) (tell : H → Outside) (clock : H → ℕ) (stopped : H → ℕ → List ℕ → List ℕ → Type 0) (count steps : ℕ) (old new : H) (status : ℕ) : Type 0 where
   pub status_is : (status ≡ COMPLETE) ⊎ (status ≡ SINK_FAULT) ⊎ (status ≡ MEMORY)
-  pub whole : (check : Check) → IsExact check → tells_said → status ≡ COMPLETE → SaidWhole check count steps (tell old).said (tell new).said
-  pub in_part : (check : Check) → IsExact check → tells_said → status ≡ SINK_FAULT → SaidInPart check count steps (tell old).said (tell new).said
+  pub whole : tells_said → status ≡ COMPLETE → SaidWhole count steps (tell old).said (tell new).said
+  pub in_part : tells_said → status ≡ SINK_FAULT → SaidInPart count steps (tell old).said (tell new).said
   pub nothing : status ≡ MEMORY → new ≡ old
   pub rest : KeepsButSaid (tell old) (tell new)
-  pub stops : (check : Check) → IsExact check → tells_said → (c s : List ℕ) → stopped new (clock old) c s
-      → stopped old (clock old) c (tell old).said × ((s ≡ (tell old).said) ⊎ SaidInPart check count steps (tell old).said s ⊎ SaidWhole check count steps (tell old).said s)
+  pub stops : tells_said → (c s : List ℕ) → stopped new (clock old) c s
+      → stopped old (clock old) c (tell old).said × ((s ≡ (tell old).said) ⊎ SaidInPart count steps (tell old).said s ⊎ SaidWhole count steps (tell old).said s)
 
 -- A run with these words, from one state of a host to another, and its status. What the host tells, its clock and its stops are
 -- those of the trait Host; IsStill says that nothing is pending when the run begins.
 pub record IsRun {H : Type 0} (tells_chosen tells_image tells_input tells_said : Type 0) (tell : H → Outside) (clock : H → ℕ) (stopped : H → ℕ → List ℕ → List ℕ → Type 0)
     (bounds : Bounds) (words : List (List ℕ)) (steps : ℕ) (old new : H) (status : ℕ) : Type 0 where
   -- A complete run.
-  pub complete : (check : Check) → IsExact check → made_named words ≡ None → tells_image → tells_said → tells_input → status ≡ COMPLETE → IsComplete check bounds steps (tell old) (tell new)
+  pub complete : made_named words ≡ None → tells_image → tells_said → tells_input → status ≡ COMPLETE → IsComplete bounds steps (tell old) (tell new)
   -- When each other status comes. Where the bound on the input is reached, the session waits for more.
   pub status_is : IsStatus status
   pub usage : status ≡ USAGE → reading words ≡ None
   pub unread : reading words ≡ None → (status ≡ USAGE) ⊎ (status ≡ MEMORY)
   pub cause : HasCause tells_image tells_input bounds (tell old) (tell new) status
   pub refused : made_named words ≡ None → tells_image → (at : ℕ) → Opens (tell old).image (Err at) → (status ≡ NOT_A_STORE) ⊎ (status ≡ USAGE) ⊎ (status ≡ INPUT_FAULT) ⊎ (status ≡ STORE_FAULT) ⊎ (status ≡ MEMORY)
-  pub waits : (check : Check) → IsExact check → tells_image → tells_input → (work : Work) → IsStart (tell old).image work → status ≡ INPUT_TOO_LONG → (session_of check bounds steps work (tell old).left).ending ≡ waiting
+  pub waits : tells_image → tells_input → (work : Work) → IsStart (tell old).image work → status ≡ INPUT_TOO_LONG → WithTold bounds steps work (tell old).left (λ types. (session_of types bounds steps work (tell old).left).ending ≡ waiting)
   pub most_taken : ((tell new).taken ≤ bounds.input) ⊎ ((tell new).taken ≡ (tell old).taken)
   pub completeness : tells_image → (kept : Workspace) → Opens (tell old).image (Ok kept) → NoneRose (tell old) (tell new) → (status ≡ COMPLETE) ⊎ (status ≡ USAGE) ⊎ (status ≡ INPUT_TOO_LONG) ⊎ (status ≡ MEMORY)
   -- What stays, and what was chosen.
@@ -177,15 +181,15 @@ pub record IsRun {H : Type 0} (tells_chosen tells_image tells_input tells_said :
       → ((tell new).chosen ≡ chose named (tell old).chosen) ⊎ (((tell new).chosen ≡ (tell old).chosen) × ((status ≡ INPUT_FAULT) ⊎ (status ≡ STORE_FAULT) ⊎ (status ≡ MEMORY)))
   pub none_chosen : store_named words ≡ None → (tell new).chosen ≡ (tell old).chosen
   -- What was asked for, and what stands after each status but 0, 2 and 6.
-  pub asked : (check : Check) → IsExact check → tells_image → tells_said → tells_input → (work : Work) → IsStart (tell old).image work → Asked (AsksSettled check bounds steps work (tell old).left (length (tell old).said)) (tell old).asked (tell new).asked
+  pub asked : tells_image → tells_said → tells_input → (work : Work) → IsStart (tell old).image work → WithTold bounds steps work (tell old).left (λ types. Asked (AsksSettled types bounds steps work (tell old).left (length (tell old).said)) (tell old).asked (tell new).asked)
   pub asks_rise : tells_said → AskedRising 0 (suc (tell new).taken) (tell old).asked (tell new).asked
-  pub stands : (check : Check) → IsExact check → made_named words ≡ None → tells_image → tells_said → tells_input → IsStill clock stopped old (tell old).image → (work : Work) → IsStart (tell old).image work
-      → IsNotBegun work (tell old) (tell new) (Now clock stopped new) status ⊎ StandsSo check bounds steps work (tell old) (tell new) (Now clock stopped new) status
+  pub stands : made_named words ≡ None → tells_image → tells_said → tells_input → IsStill clock stopped old (tell old).image → (work : Work) → IsStart (tell old).image work
+      → IsNotBegun work (tell old) (tell new) (Now clock stopped new) status ⊎ StandsSo bounds steps work (tell old) (tell new) (Now clock stopped new) status
   -- At every moment of the run: what was said is a front of the session's output, and every image that a stop may leave
   -- opens to the workspace after some of the items, which are all of whose reply a byte was said.
-  pub headline : (check : Check) → IsExact check → made_named words ≡ None → tells_image → tells_said → tells_input → IsStill clock stopped old (tell old).image → (work : Work) → IsStart (tell old).image work
-      → (c s : List ℕ) → stopped new (clock old) c s → IsSessionPoint work (session_of check bounds steps work (tell old).left) (tell old).said c s
-  pub last : (check : Check) → IsExact check → made_named words ≡ None → tells_image → tells_said → tells_input → IsStill clock stopped old (tell old).image → status ≡ COMPLETE → (work : Work) → IsStart (tell old).image work
-      → (c s : List ℕ) → stopped new (clock new) c s → OpensTo c (last_work work (session_of check bounds steps work (tell old).left))
+  pub headline : made_named words ≡ None → tells_image → tells_said → tells_input → IsStill clock stopped old (tell old).image → (work : Work) → IsStart (tell old).image work
+      → WithTold bounds steps work (tell old).left (λ types. (c s : List ℕ) → stopped new (clock old) c s → IsSessionPoint work (session_of types bounds steps work (tell old).left) (tell old).said c s)
+  pub last : made_named words ≡ None → tells_image → tells_said → tells_input → IsStill clock stopped old (tell old).image → status ≡ COMPLETE → (work : Work) → IsStart (tell old).image work
+      → WithTold bounds steps work (tell old).left (λ types. (c s : List ℕ) → stopped new (clock new) c s → OpensTo c (last_work work (session_of types bounds steps work (tell old).left)))
   -- What is said of a made input.
   pub made : (count : ℕ) → made_named words ≡ Some count → IsMadeRun tells_said tell clock stopped count steps old new status

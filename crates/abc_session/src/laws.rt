@@ -1,5 +1,6 @@
 //! Laws of the items of a session.
 ghost use Rattle.abc_session.specs.Session.{ItemsAreSteady, NoReplyIsEmpty};
+ghost use Rattle.abc_session.specs.Exact.{ExactChecksTell};
 
 use abc_outcome::no_reply_is_empty;
 
@@ -12,3 +13,9 @@ pub fn items_are_steady()
 {
     no_reply_is_empty();
 }
+
+/// A check that tells exactly the type lines tells those of the first items of a session, as many as one likes: by what it tells
+/// of them the session is that of the check.
+pub fn exact_checks_tell()
+    ensures { ExactChecksTell }
+{}

@@ -10,7 +10,7 @@ mod serve;
 mod session;
 mod status;
 
-pub use laws::items_are_steady;
+pub use laws::{exact_checks_tell, items_are_steady};
 pub use running::{run, run_within};
 pub use serve::{ServeStop, Served, serve_item};
 pub use status::{

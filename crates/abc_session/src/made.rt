@@ -1,7 +1,6 @@
 //! The run on a made input.
 ghost use Rattle.std.specs.Prelude.{IfOk};
 ghost use Rattle.abc_journal.specs.declared.layout.Bounds.{Bounds};
-ghost use Rattle.abc_outcome.specs.Checks.{Check, IsExact};
 ghost use Rattle.abc_session.specs.Run.{IsSummary, HasCause, IsMadeRun};
 
 use crate::product::product;
@@ -16,7 +15,7 @@ use std::alloc::Global;
 /// The summary of the session over the made input that puts so many values, in a store of its own. An item may take so many
 /// steps. That session ends early only for want of memory, since no call of its host is to fail.
 fn made_summary(alloc: Global, count: u64, steps: u64) -> Result<Vec<u8>, OutOfMemory>
-    ensures { (check : Check) → IsExact check → IfOk result (λ line. IsSummary check count steps line.items) }
+    ensures { IfOk result (λ line. IsSummary count steps line.items) }
 {
     let input = input_of(alloc, count)?;
     let mut inner = MemoryHost::new(alloc, Vec::new(alloc), input);

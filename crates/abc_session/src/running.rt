@@ -8,8 +8,8 @@ ghost use Rattle.abc_reader.specs.Asking.{Asked, AskedRising};
 ghost use Rattle.abc_store.specs.Opening.{Opens};
 ghost use Rattle.abc_store.specs.Commit.{Work};
 ghost use Rattle.abc_words.specs.Words.{on_store, reading};
-ghost use Rattle.abc_outcome.specs.Checks.{Check, IsExact};
 ghost use Rattle.abc_session.specs.Session.{session_of};
+ghost use Rattle.abc_session.specs.Told.{WithTold};
 ghost use Rattle.abc_session.specs.Serving.{IsStill, IsSessionPoint};
 ghost use Rattle.abc_session.specs.Product.{product_bounds};
 ghost use Rattle.abc_session.specs.Settled.{AsksSettled};
@@ -58,25 +58,25 @@ pub(crate) fn run_store<H: Host>(
     requires taken { (H.now host.old).taken ≡ 0 }
     requires none_counted { tally.old ≡ nothing_counted }
 
-    ensures complete { (check : Check) → IsExact check → H.tells_image → H.tells_said → H.tells_input → result ≡ COMPLETE → IsComplete check b.now steps (H.now host.old) (H.now host.new) }
-    ensures counted { (check : Check) → IsExact check → H.tells_image → H.tells_input → result ≡ COMPLETE → (work : Work) → IsStart (H.now host.old).image work → tally.new ≡ counted (replies (session_of check b.now steps work (H.now host.old).left)) }
+    ensures complete { H.tells_image → H.tells_said → H.tells_input → result ≡ COMPLETE → IsComplete b.now steps (H.now host.old) (H.now host.new) }
+    ensures counted { H.tells_image → H.tells_input → result ≡ COMPLETE → (work : Work) → IsStart (H.now host.old).image work → WithTold b.now steps work (H.now host.old).left (λ types. tally.new ≡ counted (replies (session_of types b.now steps work (H.now host.old).left))) }
     ensures status { IsRunStatus result }
     ensures cause { HasCause H.tells_image H.tells_input b.now (H.now host.old) (H.now host.new) result }
     ensures refused { H.tells_image → (at : ℕ) → Opens (H.now host.old).image (Err at) → (result ≡ NOT_A_STORE) ⊎ (result ≡ STORE_FAULT) ⊎ (result ≡ MEMORY) }
-    ensures waits { (check : Check) → IsExact check → H.tells_image → H.tells_input → (work : Work) → IsStart (H.now host.old).image work → result ≡ INPUT_TOO_LONG → (session_of check b.now steps work (H.now host.old).left).ending ≡ waiting }
+    ensures waits { H.tells_image → H.tells_input → (work : Work) → IsStart (H.now host.old).image work → result ≡ INPUT_TOO_LONG → WithTold b.now steps work (H.now host.old).left (λ types. (session_of types b.now steps work (H.now host.old).left).ending ≡ waiting) }
     ensures most_taken { (H.now host.new).taken ≤ b.now.input }
     ensures untouched { H.tells_image → (at : ℕ) → Opens (H.now host.old).image (Err at) → IsUntouched (H.now host.old) (H.now host.new) }
     ensures untouched_stops { H.tells_image → (at : ℕ) → Opens (H.now host.old).image (Err at) → Leaves H.clock H.stopped host.old host.new (H.stopped host.old (H.clock host.old)) }
     ensures chosen { (H.now host.new).chosen ≡ (H.now host.old).chosen }
-    ensures asked { (check : Check) → IsExact check → H.tells_image → H.tells_said → H.tells_input → (work : Work) → IsStart (H.now host.old).image work
-        → Asked (AsksSettled check b.now steps work (H.now host.old).left (length (H.now host.old).said)) (H.now host.old).asked (H.now host.new).asked }
+    ensures asked { H.tells_image → H.tells_said → H.tells_input → (work : Work) → IsStart (H.now host.old).image work
+        → WithTold b.now steps work (H.now host.old).left (λ types. Asked (AsksSettled types b.now steps work (H.now host.old).left (length (H.now host.old).said)) (H.now host.old).asked (H.now host.new).asked) }
     ensures asks_rise { H.tells_said → AskedRising 0 (suc (H.now host.new).taken) (H.now host.old).asked (H.now host.new).asked }
-    ensures stands { (check : Check) → IsExact check → H.tells_image → H.tells_said → H.tells_input → BeginsQuiet H.clock H.stopped host.old (H.now host.old).image
-        → (work : Work) → IsStart (H.now host.old).image work → StandsSo check b.now steps work (H.now host.old) (H.now host.new) (Now H.clock H.stopped host.new) result }
+    ensures stands { H.tells_image → H.tells_said → H.tells_input → BeginsQuiet H.clock H.stopped host.old (H.now host.old).image
+        → (work : Work) → IsStart (H.now host.old).image work → StandsSo b.now steps work (H.now host.old) (H.now host.new) (Now H.clock H.stopped host.new) result }
 
-    ensures stops { (check : Check) → IsExact check → H.tells_image → H.tells_said → H.tells_input → BeginsQuiet H.clock H.stopped host.old (H.now host.old).image
+    ensures stops { H.tells_image → H.tells_said → H.tells_input → BeginsQuiet H.clock H.stopped host.old (H.now host.old).image
         → (work : Work) → IsStart (H.now host.old).image work
-        → Leaves H.clock H.stopped host.old host.new (IsSessionPoint work (session_of check b.now steps work (H.now host.old).left) (H.now host.old).said) }
+        → WithTold b.now steps work (H.now host.old).left (λ types. Leaves H.clock H.stopped host.old host.new (IsSessionPoint work (session_of types b.now steps work (H.now host.old).left) (H.now host.old).said)) }
     ensures quiet { H.tells_image → BeginsQuiet H.clock H.stopped host.old (H.now host.old).image
         → result ≡ COMPLETE → IsQuiet H.clock H.stopped host.new (H.now host.new).image }
 {
@@ -135,15 +135,16 @@ pub fn run_within<H: Host>(alloc: Global, words: &[&str], host: &mut H, b: &Boun
 
 /// Runs with the bounds of the product: 2^40 bytes of image and of input. This is the whole program.
 ///
-/// The theorem of the program is the clause `headline`, which is said for every check that tells type lines exactly: whenever
-/// the program is stopped, it had said a front of the output of the session over its input, and whatever image the stop left
-/// in the store opens to the workspace after some of the items. These are all the items of whose reply a byte was said, and at
+/// The theorem of the program is the clause `headline`: there are type lines of some first items of its input, each of its item
+/// in the workspace before it, and by all such lines, whatever is told of the items behind, this holds. Whenever the program is
+/// stopped, it had said a front of the output of the session over its input, and whatever image the stop left in the store opens
+/// to the workspace after some of the items. These are all the items of whose reply a byte was said, and at
 /// most one more than those whose reply was said whole. Where the words ask for a made input, only its summary is said, and
 /// all else is untouched.
 pub fn run<H: Host>(alloc: Global, words: &[&str], host: &mut H) -> u8
-    ensures headline { (check : Check) → IsExact check → made_named (map (λ word. word.now) words.now) ≡ None → H.tells_image → H.tells_said → H.tells_input → IsStill H.clock H.stopped host.old (H.now host.old).image
+    ensures headline { made_named (map (λ word. word.now) words.now) ≡ None → H.tells_image → H.tells_said → H.tells_input → IsStill H.clock H.stopped host.old (H.now host.old).image
         → (work : Work) → IsStart (H.now host.old).image work
-        → (c s : List ℕ) → H.stopped host.new (H.clock host.old) c s → IsSessionPoint work (session_of check product_bounds (steps_named (map (λ word. word.now) words.now)) work (H.now host.old).left) (H.now host.old).said c s }
+        → WithTold product_bounds (steps_named (map (λ word. word.now) words.now)) work (H.now host.old).left (λ types. (c s : List ℕ) → H.stopped host.new (H.clock host.old) c s → IsSessionPoint work (session_of types product_bounds (steps_named (map (λ word. word.now) words.now)) work (H.now host.old).left) (H.now host.old).said c s) }
     ensures run { IsRun H.tells_chosen H.tells_image H.tells_input H.tells_said H.now H.clock H.stopped product_bounds (map (λ word. word.now) words.now) (steps_named (map (λ word. word.now) words.now)) host.old host.new result }
 {
     run_within(alloc, words, host, &product())

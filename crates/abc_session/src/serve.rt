@@ -1,5 +1,5 @@
 //! The serving of one item.
-ghost use Rattle.std.specs.Prelude.{◌≡◌, ◌≤◌, ◌<◌, ◌⊎◌, ◌+◌, ◌-◌, ◌^◌, List, ℕ, Option, true, length, IfOk, OnOk, IsOk, IsErrOf, IsTrue};
+ghost use Rattle.std.specs.Prelude.{◌≡◌, ◌≤◌, ◌<◌, ◌⊎◌, ◌+◌, ◌-◌, ◌^◌, List, ℕ, Option, true, false, length, IfOk, OnOk, IsOk, IsErrOf, IsTrue};
 ghost use Rattle.std.specs.List.{AllByRecursion};
 ghost use Rattle.abc_num.specs.declared.limits.TheConstants.{MOST_LINE_BYTES};
 ghost use Rattle.abc_outside.specs.Outside.{RoseByOne, IsFaultless};
@@ -9,9 +9,9 @@ ghost use Rattle.abc_reader.specs.Reading.{StandsAt};
 ghost use Rattle.abc_store.specs.Commit.{Holds};
 ghost use Rattle.abc_store.specs.View.{work_of};
 ghost use Rattle.abc_outcome.specs.Answers.{behind_at, WantsInside, AsksInside, NothingDone, ReadsInside};
-ghost use Rattle.abc_outcome.specs.Checks.{Check, IsExact, IsTypeLineOf, IsUpToDate};
-ghost use Rattle.abc_session.specs.Session.{outcome};
-ghost use Rattle.abc_session.specs.Serving.{OpensTo, IsItemStop, NoneFell, OnlyInputFailed, OnlyStoreFailed, OnlySinkFailed};
+ghost use Rattle.abc_outcome.specs.Outcome.{outcome};
+ghost use Rattle.abc_outcome.specs.Checks.{IsTypeLineOf, IsUpToDate};
+ghost use Rattle.abc_session.specs.Serving.{IsItemStop, NoneFell, OnlyInputFailed, OnlyStoreFailed, OnlySinkFailed};
 ghost use Rattle.abc_session.specs.Place.{place_at, WasServed, WasCut};
 
 use crate::say::say_all;
@@ -87,11 +87,11 @@ pub fn serve_item<H: Host>(
     requires short { AllByRecursion (λ line. length line.text ≤ MOST_LINE_BYTES) item.now }
     requires countable { tally.old.items < 2 ^ 64 - 1 }
 
-    ensures served { (check : Check) → IsExact check → H.tells_input → IfOk result (λ done. WasServed (outcome check store.old.bounds steps k (work_of store.old) item.now) H.tells_said
+    ensures served { (line : Option ℕ) → IsTypeLineOf store.old.kept item.now line → H.tells_input → IfOk result (λ done. WasServed (outcome line store.old.bounds steps k (work_of store.old) item.now) H.tells_said
         (place_at k (work_of store.old) reader.old (H.now host.old)) (place_at k (work_of store.new) reader.new (H.now host.new)) tally.old tally.new done.quit) }
     ensures counted { OnOk result (tally.new.items ≡ tally.old.items + 1) }
     ensures told { ((line : Option ℕ) × IsTypeLineOf store.old.kept item.now line) ⊎ (IsErrOf result ServeStop.Memory × NothingDone store.old store.new reader.old reader.new host.old host.new) }
-    ensures cut { (check : Check) → IsExact check → H.tells_said → H.tells_input → IsErrOf result ServeStop.SinkFault → WasCut (outcome check store.old.bounds steps k (work_of store.old) item.now)
+    ensures cut { (line : Option ℕ) → IsTypeLineOf store.old.kept item.now line → H.tells_said → H.tells_input → IsErrOf result ServeStop.SinkFault → WasCut (outcome line store.old.bounds steps k (work_of store.old) item.now)
         (place_at k (work_of store.old) reader.old (H.now host.old)) (place_at k (work_of store.new) reader.new (H.now host.new)) }
     ensures unsaid { (IsErrOf result ServeStop.Input ⊎ IsErrOf result ServeStop.Long ⊎ IsErrOf result ServeStop.StoreFault ⊎ IsErrOf result ServeStop.Memory)
         → (H.now host.new).said ≡ (H.now host.old).said }
@@ -109,22 +109,25 @@ pub fn serve_item<H: Host>(
     ensures holds { H.tells_image → (IsOk result ⊎ IsErrOf result ServeStop.SinkFault) → Holds (H.now host.new).image (work_of store.new) }
     ensures bounds { store.new.bounds ≡ store.old.bounds }
     ensures sound { OnOk result (IsTrue store.new.sound) }
+    ensures still_sound { IsErrOf result ServeStop.SinkFault → IsTrue store.new.sound }
+    ensures unsound { IsErrOf result ServeStop.StoreFault → store.new.sound ≡ false }
+    ensures same { (IsErrOf result ServeStop.Memory ⊎ IsErrOf result ServeStop.Input ⊎ IsErrOf result ServeStop.Long) → store.new ≡ store.old }
     ensures up_to_date { OnOk result (IsUpToDate checker.new store.new.kept.units) }
     ensures chosen { (H.now host.new).chosen ≡ (H.now host.old).chosen }
     ensures none_fell { NoneFell (H.now host.old) (H.now host.new) }
 
     // What it asked for.
     ensures reads { ReadsInside H.tells_input H.tells_said reader.old reader.new (H.now host.old) (H.now host.new) }
-    ensures asked { (check : Check) → IsExact check → H.tells_said → H.tells_input
-        → Asked (AsksInside (outcome check store.old.bounds steps k (work_of store.old) item.now) reader.old (H.now host.old).left (length (H.now host.old).said)) (H.now host.old).asked (H.now host.new).asked }
-    ensures wants { (check : Check) → IsExact check → H.tells_input → (IsErrOf result ServeStop.Input ⊎ IsErrOf result ServeStop.Long)
-        → WantsInside (outcome check store.old.bounds steps k (work_of store.old) item.now) reader.old (H.now host.old).left reader.new.taken }
+    ensures asked { (line : Option ℕ) → IsTypeLineOf store.old.kept item.now line → H.tells_said → H.tells_input
+        → Asked (AsksInside (outcome line store.old.bounds steps k (work_of store.old) item.now) reader.old (H.now host.old).left (length (H.now host.old).said)) (H.now host.old).asked (H.now host.new).asked }
+    ensures wants { (line : Option ℕ) → IsTypeLineOf store.old.kept item.now line → H.tells_input → (IsErrOf result ServeStop.Input ⊎ IsErrOf result ServeStop.Long)
+        → WantsInside (outcome line store.old.bounds steps k (work_of store.old) item.now) reader.old (H.now host.old).left reader.new.taken }
     ensures ended_ends { reader.old.ended ≡ true → (IsErrOf result ServeStop.Input ⊎ IsErrOf result ServeStop.Long) → ⊥ }
 
     // At every moment of the call, and at its end.
-    ensures stops { (check : Check) → IsExact check → H.tells_image → H.tells_said → H.tells_input → IsQuiet H.clock H.stopped host.old (H.now host.old).image
+    ensures stops { (line : Option ℕ) → IsTypeLineOf store.old.kept item.now line → H.tells_image → H.tells_said → H.tells_input → IsQuiet H.clock H.stopped host.old (H.now host.old).image
         → Leaves H.clock H.stopped host.old host.new
-        (IsItemStop (work_of store.old) (outcome check store.old.bounds steps k (work_of store.old) item.now (behind_at reader.old (H.now host.old).left)) (H.now host.old).said) }
+        (IsItemStop (work_of store.old) (outcome line store.old.bounds steps k (work_of store.old) item.now (behind_at reader.old (H.now host.old).left)) (H.now host.old).said) }
     ensures quiet { H.tells_image → IsQuiet H.clock H.stopped host.old (H.now host.old).image
         → (IsOk result ⊎ IsErrOf result ServeStop.SinkFault) → IsQuiet H.clock H.stopped host.new (H.now host.new).image }
     ensures idle { (IsErrOf result ServeStop.Memory ⊎ IsErrOf result ServeStop.Input ⊎ IsErrOf result ServeStop.Long)

@@ -8,12 +8,13 @@ ghost use Rattle.abc_reader.specs.Asking.{Asked, AskedRising, next_ask};
 ghost use Rattle.abc_make.specs.Summary.{counted, nothing_counted};
 ghost use Rattle.abc_store.specs.Commit.{Holds};
 ghost use Rattle.abc_store.specs.View.{work_of};
-ghost use Rattle.abc_outcome.specs.Checks.{Check, IsExact, IsUpToDate};
-ghost use Rattle.abc_session.specs.Session.{session_of};
+ghost use Rattle.abc_outcome.specs.Checks.{IsUpToDate};
+ghost use Rattle.abc_session.specs.Session.{Told, session_of};
+ghost use Rattle.abc_session.specs.Told.{WithTold};
 ghost use Rattle.abc_session.specs.Serving.{OpensTo, IsSessionPoint, NoneFell, OnlyInputFailed, OnlyStoreFailed, OnlySinkFailed};
 ghost use Rattle.abc_session.specs.Settled.{AsksSettled, IsWaiting};
 ghost use Rattle.abc_session.specs.Run.{HasEnded};
-ghost use Rattle.abc_session.specs.Place.{place_at, session_at, counted_at, WentOn, Ended, WantsInput, AsksInput};
+ghost use Rattle.abc_session.specs.Place.{place_at, session_at, counted_at, AreToldAt, AreThere, WithNext, WentOn, Ended, WantsInput, AsksInput};
 
 use crate::serve::{ServeStop, serve_item};
 use abc_check::Checker;
@@ -84,15 +85,17 @@ fn turn<H: Host>(
     requires up_to_date { IsUpToDate checker.old store.old.kept.units }
     requires countable { tally.old.items ≤ served.old }
 
-    ensures goes_on { (check : Check) → IsExact check → H.tells_input → result ≡ Ok true → WentOn check store.old.bounds steps H.tells_said
+    ensures goes_on { (types : Told) → AreToldAt types store.old.bounds steps (place_at served.old (work_of store.old) reader.old (H.now host.old)) 1 → H.tells_input → result ≡ Ok true → WentOn types store.old.bounds steps H.tells_said
         (place_at served.old (work_of store.old) reader.old (H.now host.old)) (place_at served.new (work_of store.new) reader.new (H.now host.new)) }
-    ensures ends { (check : Check) → IsExact check → H.tells_input → result ≡ Ok false → Ended check store.old.bounds steps H.tells_said
+    ensures there { H.tells_input → OnOk result (AreThere store.old.bounds steps (place_at served.old (work_of store.old) reader.old (H.now host.old)) 1) }
+    ensures counts_one { result ≡ Ok true → served.new ≡ served.old + 1 }
+    ensures ends { (types : Told) → AreToldAt types store.old.bounds steps (place_at served.old (work_of store.old) reader.old (H.now host.old)) 1 → H.tells_input → result ≡ Ok false → Ended types store.old.bounds steps H.tells_said
         (place_at served.old (work_of store.old) reader.old (H.now host.old)) (place_at served.new (work_of store.new) reader.new (H.now host.new)) }
 
     // What is counted with the replies that are left stays, and at the end none is left.
-    ensures tallied { (check : Check) → IsExact check → H.tells_input → result ≡ Ok true → counted_at check store.old.bounds steps (place_at served.old (work_of store.old) reader.old (H.now host.old)) tally.old
-        ≡ counted_at check store.old.bounds steps (place_at served.new (work_of store.new) reader.new (H.now host.new)) tally.new }
-    ensures tallied_whole { (check : Check) → IsExact check → H.tells_input → result ≡ Ok false → counted_at check store.old.bounds steps (place_at served.old (work_of store.old) reader.old (H.now host.old)) tally.old ≡ tally.new }
+    ensures tallied { (types : Told) → AreToldAt types store.old.bounds steps (place_at served.old (work_of store.old) reader.old (H.now host.old)) 1 → H.tells_input → result ≡ Ok true → counted_at types store.old.bounds steps (place_at served.old (work_of store.old) reader.old (H.now host.old)) tally.old
+        ≡ counted_at types store.old.bounds steps (place_at served.new (work_of store.new) reader.new (H.now host.new)) tally.new }
+    ensures tallied_whole { (types : Told) → AreToldAt types store.old.bounds steps (place_at served.old (work_of store.old) reader.old (H.now host.old)) 1 → H.tells_input → result ≡ Ok false → counted_at types store.old.bounds steps (place_at served.old (work_of store.old) reader.old (H.now host.old)) tally.old ≡ tally.new }
 
     ensures input_fault { IsErrOf result SessionStop.Input → RoseByOne (H.now host.old).input_faults (H.now host.new).input_faults }
     ensures store_fault { IsErrOf result SessionStop.StoreFault → RoseByOne (H.now host.old).store_faults (H.now host.new).store_faults }
@@ -120,33 +123,33 @@ fn turn<H: Host>(
     ensures none_fell { NoneFell (H.now host.old) (H.now host.new) }
 
     // What it asked for.
-    ensures asked { (check : Check) → IsExact check → H.tells_said → H.tells_input
-        → Asked (AsksInput check store.old.bounds steps (place_at served.old (work_of store.old) reader.old (H.now host.old))) (H.now host.old).asked (H.now host.new).asked }
+    ensures asked { H.tells_said → H.tells_input
+        → WithNext store.old.bounds steps (place_at served.old (work_of store.old) reader.old (H.now host.old)) (λ types. Asked (AsksInput types store.old.bounds steps (place_at served.old (work_of store.old) reader.old (H.now host.old))) (H.now host.old).asked (H.now host.new).asked) }
     ensures asks_rise { H.tells_said → AskedRising (next_ask reader.old.taken reader.old.ended) (next_ask reader.new.taken reader.new.ended) (H.now host.old).asked (H.now host.new).asked }
     ensures stays_ended { reader.old.ended ≡ true → reader.new.ended ≡ true }
     ensures ended_asks { reader.old.ended ≡ true → (H.now host.new).asked ≡ (H.now host.old).asked }
     ensures ended_ends { reader.old.ended ≡ true → (IsErrOf result SessionStop.Input ⊎ IsErrOf result SessionStop.Long) → ⊥ }
-    ensures wants { (check : Check) → IsExact check → H.tells_input → (IsErrOf result SessionStop.Input ⊎ IsErrOf result SessionStop.Long)
-        → WantsInput check store.old.bounds steps (place_at served.old (work_of store.old) reader.old (H.now host.old)) (H.now host.new).taken }
+    ensures wants { H.tells_input → (IsErrOf result SessionStop.Input ⊎ IsErrOf result SessionStop.Long)
+        → WithNext store.old.bounds steps (place_at served.old (work_of store.old) reader.old (H.now host.old)) (λ types. WantsInput types store.old.bounds steps (place_at served.old (work_of store.old) reader.old (H.now host.old)) (H.now host.new).taken) }
 
     // What stands where it stops.
     ensures idle_said { (IsErrOf result SessionStop.Memory ⊎ IsErrOf result SessionStop.Input ⊎ IsErrOf result SessionStop.Long) → (H.now host.new).said ≡ (H.now host.old).said }
     ensures idle { H.tells_image → IsQuiet H.clock H.stopped host.old (H.now host.old).image
         → (IsErrOf result SessionStop.Memory ⊎ IsErrOf result SessionStop.Input ⊎ IsErrOf result SessionStop.Long)
         → (c s : List ℕ) → Now H.clock H.stopped host.new c s → OpensTo c (work_of store.old) }
-    ensures broken { (check : Check) → IsExact check → H.tells_image → H.tells_said → H.tells_input → IsQuiet H.clock H.stopped host.old (H.now host.old).image → IsErrOf result SessionStop.StoreFault
-        → IsBroken OpensTo (works (work_of store.old) (session_at check store.old.bounds steps (place_at served.old (work_of store.old) reader.old (H.now host.old))))
-        (replies (session_at check store.old.bounds steps (place_at served.old (work_of store.old) reader.old (H.now host.old))))
-        (H.now host.old).said (H.now host.new).said (Now H.clock H.stopped host.new) }
-    ensures cut_short { (check : Check) → IsExact check → H.tells_image → H.tells_said → H.tells_input → IsQuiet H.clock H.stopped host.old (H.now host.old).image → IsErrOf result SessionStop.SinkFault
-        → IsCutShort OpensTo (works (work_of store.old) (session_at check store.old.bounds steps (place_at served.old (work_of store.old) reader.old (H.now host.old))))
-        (replies (session_at check store.old.bounds steps (place_at served.old (work_of store.old) reader.old (H.now host.old))))
-        (H.now host.old).said (H.now host.new).said (Now H.clock H.stopped host.new) }
+    ensures broken { H.tells_image → H.tells_said → H.tells_input → IsQuiet H.clock H.stopped host.old (H.now host.old).image → IsErrOf result SessionStop.StoreFault
+        → WithNext store.old.bounds steps (place_at served.old (work_of store.old) reader.old (H.now host.old)) (λ types. IsBroken OpensTo (works (work_of store.old) (session_at types store.old.bounds steps (place_at served.old (work_of store.old) reader.old (H.now host.old))))
+        (replies (session_at types store.old.bounds steps (place_at served.old (work_of store.old) reader.old (H.now host.old))))
+        (H.now host.old).said (H.now host.new).said (Now H.clock H.stopped host.new)) }
+    ensures cut_short { H.tells_image → H.tells_said → H.tells_input → IsQuiet H.clock H.stopped host.old (H.now host.old).image → IsErrOf result SessionStop.SinkFault
+        → WithNext store.old.bounds steps (place_at served.old (work_of store.old) reader.old (H.now host.old)) (λ types. IsCutShort OpensTo (works (work_of store.old) (session_at types store.old.bounds steps (place_at served.old (work_of store.old) reader.old (H.now host.old))))
+        (replies (session_at types store.old.bounds steps (place_at served.old (work_of store.old) reader.old (H.now host.old))))
+        (H.now host.old).said (H.now host.new).said (Now H.clock H.stopped host.new)) }
 
     // At every moment of the call, and at its end.
-    ensures stops { (check : Check) → IsExact check → H.tells_image → H.tells_said → H.tells_input → IsQuiet H.clock H.stopped host.old (H.now host.old).image
-        → Leaves H.clock H.stopped host.old host.new (IsSessionPoint (work_of store.old)
-        (session_at check store.old.bounds steps (place_at served.old (work_of store.old) reader.old (H.now host.old))) (H.now host.old).said) }
+    ensures stops { H.tells_image → H.tells_said → H.tells_input → IsQuiet H.clock H.stopped host.old (H.now host.old).image
+        → WithNext store.old.bounds steps (place_at served.old (work_of store.old) reader.old (H.now host.old)) (λ types. Leaves H.clock H.stopped host.old host.new (IsSessionPoint (work_of store.old)
+        (session_at types store.old.bounds steps (place_at served.old (work_of store.old) reader.old (H.now host.old))) (H.now host.old).said)) }
     ensures quiet { H.tells_image → IsQuiet H.clock H.stopped host.old (H.now host.old).image
         → OnOk result (IsQuiet H.clock H.stopped host.new (H.now host.new).image) }
 {
@@ -179,17 +182,17 @@ pub(crate) fn serve_all<H: Host>(
     requires same_bound { bound ≡ store.old.bounds.input }
     requires none_counted { tally.old ≡ nothing_counted }
 
-    ensures said { (check : Check) → IsExact check → H.tells_said → H.tells_input → OnOk result ((H.now host.new).said ≡ (H.now host.old).said
-        ++ output (session_of check store.old.bounds steps (work_of store.old) (H.now host.old).left)) }
-    ensures counted { (check : Check) → IsExact check → H.tells_input → OnOk result (tally.new ≡ counted (replies (session_of check store.old.bounds steps (work_of store.old) (H.now host.old).left))) }
-    ensures work { (check : Check) → IsExact check → H.tells_input → OnOk result (work_of store.new ≡ last_work (work_of store.old) (session_of check store.old.bounds steps (work_of store.old) (H.now host.old).left)) }
+    ensures said { H.tells_said → H.tells_input → OnOk result (WithTold store.old.bounds steps (work_of store.old) (H.now host.old).left (λ types. (H.now host.new).said ≡ (H.now host.old).said
+        ++ output (session_of types store.old.bounds steps (work_of store.old) (H.now host.old).left))) }
+    ensures counted { H.tells_input → OnOk result (WithTold store.old.bounds steps (work_of store.old) (H.now host.old).left (λ types. tally.new ≡ counted (replies (session_of types store.old.bounds steps (work_of store.old) (H.now host.old).left)))) }
+    ensures work { H.tells_input → OnOk result (WithTold store.old.bounds steps (work_of store.old) (H.now host.old).left (λ types. work_of store.new ≡ last_work (work_of store.old) (session_of types store.old.bounds steps (work_of store.old) (H.now host.old).left))) }
     ensures holds { H.tells_image → OnOk result (Holds (H.now host.new).image (work_of store.new)) }
-    ensures ended { (check : Check) → IsExact check → H.tells_input → OnOk result (HasEnded (session_of check store.old.bounds steps (work_of store.old) (H.now host.old).left).ending store.old.bounds.input (H.now host.old) (H.now host.new)) }
+    ensures ended { H.tells_input → OnOk result (WithTold store.old.bounds steps (work_of store.old) (H.now host.old).left (λ types. HasEnded (session_of types store.old.bounds steps (work_of store.old) (H.now host.old).left).ending store.old.bounds.input (H.now host.old) (H.now host.new))) }
 
     ensures long { IsErrOf result SessionStop.Long → (H.now host.new).taken ≡ bound }
     ensures most_taken { (H.now host.new).taken ≤ bound }
     ensures long_input { H.tells_input → IsErrOf result SessionStop.Long → bound ≤ length (H.now host.old).left }
-    ensures waits { (check : Check) → IsExact check → H.tells_input → IsErrOf result SessionStop.Long → (session_of check store.old.bounds steps (work_of store.old) (H.now host.old).left).ending ≡ waiting }
+    ensures waits { H.tells_input → IsErrOf result SessionStop.Long → WithTold store.old.bounds steps (work_of store.old) (H.now host.old).left (λ types. (session_of types store.old.bounds steps (work_of store.old) (H.now host.old).left).ending ≡ waiting) }
     ensures input_fault { IsErrOf result SessionStop.Input → RoseByOne (H.now host.old).input_faults (H.now host.new).input_faults }
     ensures store_fault { IsErrOf result SessionStop.StoreFault → RoseByOne (H.now host.old).store_faults (H.now host.new).store_faults }
     ensures sink_fault { IsErrOf result SessionStop.SinkFault → RoseByOne (H.now host.old).sink_faults (H.now host.new).sink_faults }
@@ -202,25 +205,25 @@ pub(crate) fn serve_all<H: Host>(
     ensures none_fell { NoneFell (H.now host.old) (H.now host.new) }
 
     // What was asked for, and what stands where the session stops.
-    ensures asked { (check : Check) → IsExact check → H.tells_said → H.tells_input → Asked (AsksSettled check store.old.bounds steps (work_of store.old) (H.now host.old).left (length (H.now host.old).said))
-        (H.now host.old).asked (H.now host.new).asked }
+    ensures asked { H.tells_said → H.tells_input → WithTold store.old.bounds steps (work_of store.old) (H.now host.old).left (λ types. Asked (AsksSettled types store.old.bounds steps (work_of store.old) (H.now host.old).left (length (H.now host.old).said))
+        (H.now host.old).asked (H.now host.new).asked) }
     ensures asks_rise { H.tells_said → AskedRising 0 (suc (H.now host.new).taken) (H.now host.old).asked (H.now host.new).asked }
-    ensures waiting { (check : Check) → IsExact check → H.tells_image → H.tells_said → H.tells_input → IsQuiet H.clock H.stopped host.old (H.now host.old).image
+    ensures waiting { H.tells_image → H.tells_said → H.tells_input → IsQuiet H.clock H.stopped host.old (H.now host.old).image
         → (IsErrOf result SessionStop.Input ⊎ IsErrOf result SessionStop.Long)
-        → IsWaiting check store.old.bounds steps (work_of store.old) (H.now host.old).left (H.now host.old).said (H.now host.new) (Now H.clock H.stopped host.new) }
-    ensures between { (check : Check) → IsExact check → H.tells_image → H.tells_said → H.tells_input → IsQuiet H.clock H.stopped host.old (H.now host.old).image → IsErrOf result SessionStop.Memory
-        → IsBetween OpensTo (works (work_of store.old) (session_of check store.old.bounds steps (work_of store.old) (H.now host.old).left)) (replies (session_of check store.old.bounds steps (work_of store.old) (H.now host.old).left))
-        (H.now host.old).said (H.now host.new).said (Now H.clock H.stopped host.new) }
-    ensures broken { (check : Check) → IsExact check → H.tells_image → H.tells_said → H.tells_input → IsQuiet H.clock H.stopped host.old (H.now host.old).image → IsErrOf result SessionStop.StoreFault
-        → IsBroken OpensTo (works (work_of store.old) (session_of check store.old.bounds steps (work_of store.old) (H.now host.old).left)) (replies (session_of check store.old.bounds steps (work_of store.old) (H.now host.old).left))
-        (H.now host.old).said (H.now host.new).said (Now H.clock H.stopped host.new) }
-    ensures cut_short { (check : Check) → IsExact check → H.tells_image → H.tells_said → H.tells_input → IsQuiet H.clock H.stopped host.old (H.now host.old).image → IsErrOf result SessionStop.SinkFault
-        → IsCutShort OpensTo (works (work_of store.old) (session_of check store.old.bounds steps (work_of store.old) (H.now host.old).left)) (replies (session_of check store.old.bounds steps (work_of store.old) (H.now host.old).left))
-        (H.now host.old).said (H.now host.new).said (Now H.clock H.stopped host.new) }
+        → WithTold store.old.bounds steps (work_of store.old) (H.now host.old).left (λ types. IsWaiting types store.old.bounds steps (work_of store.old) (H.now host.old).left (H.now host.old).said (H.now host.new) (Now H.clock H.stopped host.new)) }
+    ensures between { H.tells_image → H.tells_said → H.tells_input → IsQuiet H.clock H.stopped host.old (H.now host.old).image → IsErrOf result SessionStop.Memory
+        → WithTold store.old.bounds steps (work_of store.old) (H.now host.old).left (λ types. IsBetween OpensTo (works (work_of store.old) (session_of types store.old.bounds steps (work_of store.old) (H.now host.old).left)) (replies (session_of types store.old.bounds steps (work_of store.old) (H.now host.old).left))
+        (H.now host.old).said (H.now host.new).said (Now H.clock H.stopped host.new)) }
+    ensures broken { H.tells_image → H.tells_said → H.tells_input → IsQuiet H.clock H.stopped host.old (H.now host.old).image → IsErrOf result SessionStop.StoreFault
+        → WithTold store.old.bounds steps (work_of store.old) (H.now host.old).left (λ types. IsBroken OpensTo (works (work_of store.old) (session_of types store.old.bounds steps (work_of store.old) (H.now host.old).left)) (replies (session_of types store.old.bounds steps (work_of store.old) (H.now host.old).left))
+        (H.now host.old).said (H.now host.new).said (Now H.clock H.stopped host.new)) }
+    ensures cut_short { H.tells_image → H.tells_said → H.tells_input → IsQuiet H.clock H.stopped host.old (H.now host.old).image → IsErrOf result SessionStop.SinkFault
+        → WithTold store.old.bounds steps (work_of store.old) (H.now host.old).left (λ types. IsCutShort OpensTo (works (work_of store.old) (session_of types store.old.bounds steps (work_of store.old) (H.now host.old).left)) (replies (session_of types store.old.bounds steps (work_of store.old) (H.now host.old).left))
+        (H.now host.old).said (H.now host.new).said (Now H.clock H.stopped host.new)) }
 
     // At every moment of the session, and at its end.
-    ensures stops { (check : Check) → IsExact check → H.tells_image → H.tells_said → H.tells_input → IsQuiet H.clock H.stopped host.old (H.now host.old).image
-        → Leaves H.clock H.stopped host.old host.new (IsSessionPoint (work_of store.old) (session_of check store.old.bounds steps (work_of store.old) (H.now host.old).left) (H.now host.old).said) }
+    ensures stops { H.tells_image → H.tells_said → H.tells_input → IsQuiet H.clock H.stopped host.old (H.now host.old).image
+        → WithTold store.old.bounds steps (work_of store.old) (H.now host.old).left (λ types. Leaves H.clock H.stopped host.old host.new (IsSessionPoint (work_of store.old) (session_of types store.old.bounds steps (work_of store.old) (H.now host.old).left) (H.now host.old).said)) }
     ensures quiet { H.tells_image → IsQuiet H.clock H.stopped host.old (H.now host.old).image
         → OnOk result (IsQuiet H.clock H.stopped host.new (H.now host.new).image) }
 {

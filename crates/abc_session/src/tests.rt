@@ -1,7 +1,7 @@
 //! The session over a host in memory: what is said and kept, bad words and images, bounds, and calls that fail.
 use crate::{
     COMPLETE, INPUT_FAULT, INPUT_TOO_LONG, NOT_A_STORE, SINK_FAULT, STORE_FAULT, USAGE,
-    items_are_steady, run, run_within, statuses_are_numbered,
+    exact_checks_tell, items_are_steady, run, run_within, statuses_are_numbered,
 };
 use abc_journal::Bounds;
 use abc_outside::{CallKind, MemoryHost, RealHost};
@@ -213,6 +213,7 @@ const SESSIONS: [Session; 20] = [
 fn ample_memory_is_enough(rt: HostRuntime) -> Result<(), Fail> {
     let alloc = rt.alloc();
     items_are_steady();
+    exact_checks_tell();
     statuses_are_numbered();
     for row in &SESSIONS {
         let mut host = host_of(alloc, &[], row.input)?;
@@ -236,7 +237,7 @@ struct Bounded {
     size: usize,
 }
 
-const BOUNDED: [Bounded; 19] = [
+const BOUNDED: [Bounded; 20] = [
     Bounded {
         words: &WORDS,
         input: "WRITE 1",
@@ -336,6 +337,17 @@ const BOUNDED: [Bounded; 19] = [
         status: COMPLETE,
         said: "[1] ok\n[2] ok\n[3] ok\n[4] ok\n",
         size: 101,
+    },
+    // Units are put, replaced and dropped, before a checkpoint and after it.
+    Bounded {
+        words: &WORDS,
+        input: "PUT 1 IN x\nHOW TO RETURN one: RETURN 1\nHOW TO NIL: PASS\nHOW TO RETURN one: RETURN 2\n-:NIL\nPUT 2 IN x\nWRITE one\n",
+        most_input: 1000,
+        most_image: 1000,
+        most_checkpoint: 36,
+        status: COMPLETE,
+        said: "[1] ok\n[2] unit RETURN one\n[3] unit NIL\n[4] unit RETURN one\n[5] ok\n[6] ok\n2\n[7] ok\n",
+        size: 449,
     },
     Bounded {
         words: &WORDS,
@@ -566,7 +578,7 @@ struct Payload {
     status: u8,
 }
 
-const PAYLOADS: [Payload; 10] = [
+const PAYLOADS: [Payload; 12] = [
     Payload {
         name: "no changes",
         bytes: &[0, 0, 0, 0],
@@ -581,6 +593,19 @@ const PAYLOADS: [Payload; 10] = [
         ],
         letters: 0,
         status: COMPLETE,
+    },
+    // A unit that types fit, and one that no commit keeps.
+    Payload {
+        name: "a unit",
+        bytes: b"\x00\x00\x00\x01\x03\x00\x00\x00\x01\x00\x00\x00\x00\x00\x00\x00\x1bHOW TO RETURN one: RETURN 1",
+        letters: 0,
+        status: COMPLETE,
+    },
+    Payload {
+        name: "a unit that no types fit",
+        bytes: b"\x00\x00\x00\x01\x03\x00\x00\x00\x01\x00\x00\x00\x00\x00\x00\x00\x1fHOW TO RETURN one: RETURN 1+\"a\"",
+        letters: 0,
+        status: NOT_A_STORE,
     },
     Payload {
         name: "no count",

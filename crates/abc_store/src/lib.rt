@@ -15,6 +15,3 @@ mod whole;
 
 pub use faults::CommitFault;
 pub use store::Store;
-
-#[cfg(test)]
-mod tests;

@@ -39,11 +39,7 @@ pub(crate) fn opened(alloc: Global, start: u64, payloads: &[Text]) -> Result<Con
 }
 
 /// Whether types fit these targets and units.
-pub(crate) fn are_typed(
-    alloc: Global,
-    targets: &Targets,
-    units: &Units,
-) -> Result<bool, OutOfMemory>
+fn are_typed(alloc: Global, targets: &Targets, units: &Units) -> Result<bool, OutOfMemory>
     requires kept { AreKeptUnits units.now }
     ensures { IfOk result (λ yes. IsTrue yes ↔ IsWellTyped (record { targets = targets.now; units = units.now })) }
 {

@@ -1,5 +1,5 @@
 //! The store: a workspace, and the journal that keeps it.
-ghost use Rattle.std.specs.Prelude.{◌≡◌, ◌⊎◌, ◌↔◌, ◌≤◌, ◌<◌, false, List, ℕ, length, IfOk, OnOk, IsErrOf, IsTrue, true, option_map, Ok, Err, Some};
+ghost use Rattle.std.specs.Prelude.{◌≡◌, ◌⊎◌, ◌≤◌, ◌<◌, false, List, ℕ, length, IfOk, OnOk, IsErrOf, IsTrue, true, option_map, Ok, Err, Some};
 ghost use Rattle.abc_outside.specs.Outside.{RoseByOne, KeepsButStore};
 ghost use Rattle.abc_outside.specs.Stop.{Leaves, IsQuiet};
 ghost use Rattle.abc_tree.specs.Units.{AreRising as AreInOrder};
@@ -15,7 +15,7 @@ ghost use Rattle.abc_store.specs.View.{work_of};
 
 use crate::CommitFault;
 use crate::contents::Contents;
-use crate::opening::{are_typed, opened};
+use crate::opening::opened;
 use crate::plan::{Plan, prepare};
 use crate::steps::write_all;
 use crate::whole::as_changes;
@@ -138,13 +138,6 @@ impl Store {
         ensures none { result ≡ false → MOST_UNITS < length (with_routine self.now.kept unit.now).units }
     {
         self.contents.has_room_for(unit)
-    }
-
-    /// Whether types fit these targets and the units of the store.
-    pub fn fits(&self, targets: &Targets) -> Result<bool, OutOfMemory>
-        ensures { IfOk result (λ yes. IsTrue yes ↔ IsWellTyped (with_targets self.now.kept targets.now)) }
-    {
-        are_typed(self.alloc, targets, self.contents.units())
     }
 
     /// Targets equal to those of the store, for an item to change.

@@ -1,6 +1,8 @@
 pub mod Adding
 pub mod Appending
 pub mod Collecting
+pub mod Columns
+pub mod CommonForms
 pub mod Comparing
 pub mod Displayed
 pub mod FiniteDecimals
@@ -12,11 +14,15 @@ pub mod Joins
 pub mod Keys
 pub mod ByKind
 pub mod Characters
+pub mod Keeping
+pub mod KeepingSteps
+pub mod KeptShapes
 pub mod LongDivision
 pub mod Lower
 pub mod Making
 pub mod Merging
 pub mod MergingPairs
+pub mod OneForm
 pub mod Outers
 pub mod Pairing
 pub mod OrderLaws
@@ -27,9 +33,11 @@ pub mod Ranges
 pub mod Removing
 pub mod RisingKeys
 pub mod Rows
+pub mod SameForms
 pub mod ShapeLooks
 pub mod ShapeSteps
 pub mod Shaping
 pub mod Short
 pub mod Tables
 pub mod TypesOfValues
+pub mod Wholes

@@ -1,10 +1,8 @@
 -- Steps of joins and of the shapes of values.
-use Rattle.std.proofs.Common.{◌≡◌, ℕ, zero, suc, ◌+◌, ◌<◌, ◌≤◌, List, [], ◌∷◌, ◌++◌, length, map, drop, get_or, refl, sym, ap, ◌∙◌, arith, add-one, Option, Some, None}
+use Rattle.std.proofs.Common.{◌≡◌, ℕ, zero, suc, ◌+◌, ◌<◌, ◌≤◌, List, [], ◌∷◌, ◌++◌, length, drop, get_or, refl, sym, ap, ◌∙◌, arith, add-one, Option, Some, None}
 use Rattle.std.specs.Option.{option_map}
-use Rattle.abc_value.specs.Tree.{Tree, list, trees, more, no_trees, Trees, pairs, Pairs, pair, no_pairs}
-use Rattle.abc_value.specs.Forms.{Form, Forms, anything, a_list, forms, no_forms, more_forms, both, join, join_each, joined, form_of, forms_of, common, common_key, common_associate}
-use Rattle.abc_value.specs.declared.value.Entry.{Entry}
-use Rattle.abc_value.specs.View.{as_pair}
+use Rattle.abc_value.specs.Tree.{Tree, list, trees}
+use Rattle.abc_value.specs.Forms.{Form, Forms, anything, a_list, forms, no_forms, more_forms, both, join, join_each, joined, form_of, forms_of, common}
 use Rattle.abc_value.specs.FormCode.{depth_of, forms_depth}
 
 pub shape_below : (ss : List Form) (i : ℕ) (s : Form) → i < length ss → s ≡ get_or ss i s → depth_of s + 1 ≤ forms_depth (forms ss)
@@ -96,50 +94,10 @@ forms_stop w xs fs i x inv h e found =
 pub forms_done : (w : Option Forms) (xs : List Tree) (fs : List Form) (i : ℕ) → w ≡ in_front fs (forms_of (trees (drop i xs))) → length xs ≤ i → Some (forms fs) ≡ w
 forms_done w xs fs i inv h = sym (inv ∙ ap (in_front fs) (forms_end xs i h) ∙ in_front_end fs)
 
-common_none : (ts : Trees) → common None ts ≡ None
-common_none no_trees = refl
-common_none (more t ts) = common_none ts
-
-common_step : (o : Option Form) (xs : List Tree) (i : ℕ) (x : Tree) → i < length xs → x ≡ get_or xs i x → common o (trees (drop i xs)) ≡ common (joined o (form_of x)) (trees (drop (suc i) xs))
-common_step o [] i x h e = absurd (omega arith)
-common_step o (y ∷ ys) zero x h e = ap (λ z. common (joined o (form_of z)) (trees ys)) (sym e)
-common_step o (y ∷ ys) (suc i) x h e = common_step o ys i x (omega arith) e
-
-pub common_stop : (w : Option Form) (xs : List Tree) (all : Form) (i : ℕ) (x : Tree) → w ≡ common (Some all) (trees (drop i xs)) → i < length xs → x ≡ get_or xs i x → None ≡ joined (Some all) (form_of x) → None ≡ w
-common_stop w xs all i x inv h e found =
-    sym (inv ∙ common_step (Some all) xs i x h e ∙ ap (λ o. common o (trees (drop (suc i) xs))) (sym found) ∙ common_none (trees (drop (suc i) xs)))
-
 -- the first element may be joined to what is known of nothing
 pub from_anything : (o : Option Form) → joined (Some anything) o ≡ o
 from_anything None = refl
 from_anything (Some s) = refl
-
--- ---- entries, one after the other
-common_key_none : (ps : Pairs) → common_key None ps ≡ None
-common_key_none no_pairs = refl
-common_key_none (pair k a ps) = common_key_none ps
-
-common_associate_none : (ps : Pairs) → common_associate None ps ≡ None
-common_associate_none no_pairs = refl
-common_associate_none (pair k a ps) = common_associate_none ps
-
-key_step : (o : Option Form) (es : List Entry) (i : ℕ) (e : Entry) → i < length es → e ≡ get_or es i e → common_key o (pairs (map as_pair (drop i es))) ≡ common_key (joined o (form_of e.key)) (pairs (map as_pair (drop (suc i) es)))
-key_step o [] i e h is = absurd (omega arith)
-key_step o (f ∷ fs) zero e h is = ap (λ (g : Entry). common_key (joined o (form_of g.key)) (pairs (map as_pair fs))) (sym is)
-key_step o (f ∷ fs) (suc i) e h is = key_step o fs i e (omega arith) is
-
-associate_step : (o : Option Form) (es : List Entry) (i : ℕ) (e : Entry) → i < length es → e ≡ get_or es i e → common_associate o (pairs (map as_pair (drop i es))) ≡ common_associate (joined o (form_of e.associate)) (pairs (map as_pair (drop (suc i) es)))
-associate_step o [] i e h is = absurd (omega arith)
-associate_step o (f ∷ fs) zero e h is = ap (λ (g : Entry). common_associate (joined o (form_of g.associate)) (pairs (map as_pair fs))) (sym is)
-associate_step o (f ∷ fs) (suc i) e h is = associate_step o fs i e (omega arith) is
-
-pub key_stop : (w : Option Form) (es : List Entry) (all : Form) (i : ℕ) (e : Entry) → w ≡ common_key (Some all) (pairs (map as_pair (drop i es))) → i < length es → e ≡ get_or es i e → None ≡ joined (Some all) (form_of e.key) → None ≡ w
-key_stop w es all i e inv h is found =
-    sym (inv ∙ key_step (Some all) es i e h is ∙ ap (λ o. common_key o (pairs (map as_pair (drop (suc i) es)))) (sym found) ∙ common_key_none (pairs (map as_pair (drop (suc i) es))))
-
-pub associate_stop : (w : Option Form) (es : List Entry) (all : Form) (i : ℕ) (e : Entry) → w ≡ common_associate (Some all) (pairs (map as_pair (drop i es))) → i < length es → e ≡ get_or es i e → None ≡ joined (Some all) (form_of e.associate) → None ≡ w
-associate_stop w es all i e inv h is found =
-    sym (inv ∙ associate_step (Some all) es i e h is ∙ ap (λ o. common_associate o (pairs (map as_pair (drop (suc i) es)))) (sym found) ∙ common_associate_none (pairs (map as_pair (drop (suc i) es))))
 
 -- a list with elements has lists of what they have together
 pub list_form : (xs : List Tree) → (length xs ≡ 0 → ⊥) → option_map a_list (common (Some anything) (trees xs)) ≡ form_of (list (trees xs))

@@ -1,6 +1,7 @@
 pub mod Changes
 pub mod Code
 pub mod DisplayLaws
+pub mod EntryCode
 pub mod Falls
 pub mod Faults
 pub mod FormCode
@@ -8,6 +9,7 @@ pub mod Forms
 pub mod inner
 pub mod Items
 pub mod Laws
+pub mod Measures
 pub mod Order
 pub mod PartLaws
 pub mod Parts

@@ -22,8 +22,8 @@ impl Value {
             (Node::Number(a), Node::Number(b)) => a.cmp(b),
             (Node::Text(a), Node::Text(b)) => a.as_slice().cmp(&b.as_slice()),
             (Node::Compound(a), Node::Compound(b)) => cmp_all(a, b),
-            (Node::List(a), Node::List(b)) => cmp_all(a, b),
-            (Node::Table(a), Node::Table(b)) => cmp_entries(a, b),
+            (Node::List(a), Node::List(b)) => cmp_all(a.items(), b.items()),
+            (Node::Table(a), Node::Table(b)) => cmp_entries(a.items(), b.items()),
             _ => rank_of(&self.node).cmp(&rank_of(&o.node)),
         }
     }

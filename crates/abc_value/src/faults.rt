@@ -1,5 +1,5 @@
 //! Why a call on values, or a run, gives no result.
-use abc_num::NumFault;
+use abc_num::{NumFault, OutOfMemory};
 use std::alloc::{AllocError, AllocFailed};
 
 /// Why a call on values has no result. What it would have changed is as before.
@@ -52,6 +52,17 @@ pub enum PrintFault {
     TooLong,
     /// There was not enough memory.
     Memory,
+}
+
+impl From<OutOfMemory> for ValueFault {
+    ghost use Rattle.std.specs.Prelude.{◌≡◌};
+    ghost use Rattle.abc_value.specs.declared.faults.ValueFault.TheVariants.{Memory};
+
+    ghost from_gives = { λ _ f. f ≡ Memory };
+
+    fn from(_refused: OutOfMemory) -> ValueFault {
+        ValueFault::Memory
+    }
 }
 
 impl From<AllocError> for PrintFault {

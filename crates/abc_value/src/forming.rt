@@ -1,18 +1,18 @@
-//! The shapes of values.
-ghost use Rattle.std.specs.Prelude.{◌≡◌, IfOk, Some, map};
+//! The shapes of values: what is kept beside the parts of lists and tables, and the shapes of the fields of compounds.
+ghost use Rattle.std.specs.Prelude.{◌≡◌, IfOk};
 ghost use Rattle.std.specs.Option.{option_map};
-ghost use Rattle.abc_value.specs.Tree.{trees, pairs};
-ghost use Rattle.abc_value.specs.Forms.{anything, forms, joined, form_of, forms_of, common, common_key, common_associate};
-ghost use Rattle.abc_value.specs.View.{as_pair};
+ghost use Rattle.abc_value.specs.Tree.{trees};
+ghost use Rattle.abc_value.specs.Forms.{forms, form_of, forms_of};
 
-use crate::value::{Entry, Node};
+use crate::value::Node;
 use crate::{Shape, Value};
 use abc_chunks::Chunks;
 use abc_num::OutOfMemory;
 use std::alloc::Global;
 
 impl Shape {
-    /// The shape of the types that a value has. None where it has none, as a list of a number and a text.
+    /// The shape of the types that a value has. None where it has none, as a list of a number and a text. No list
+    /// and no table is gone through.
     #[cycle(form)]
     pub fn of(alloc: Global, v: &Value) -> Result<Option<Shape>, OutOfMemory>
         ensures { IfOk result (λ o. o ≡ form_of v.now) }
@@ -24,20 +24,8 @@ impl Shape {
                 Some(shapes) => Ok(Some(Shape::compound(shapes))),
                 None => Ok(None),
             },
-            Node::List(elements) if elements.is_empty() => Ok(Some(Shape::collection())),
-            Node::List(elements) => match common_shape(alloc, elements)? {
-                Some(shape) => Ok(Some(Shape::list(alloc, shape)?)),
-                None => Ok(None),
-            },
-            Node::Table(entries) => {
-                let Some(keys) = key_shape(alloc, entries)? else {
-                    return Ok(None);
-                };
-                let Some(associates) = associate_shape(alloc, entries)? else {
-                    return Ok(None);
-                };
-                Ok(Some(Shape::table(alloc, keys, associates)?))
-            }
+            Node::List(elements) => elements.shape(),
+            Node::Table(entries) => entries.shape(),
         }
     }
 }
@@ -55,60 +43,4 @@ fn shapes_of(alloc: Global, parts: &Chunks<Value>) -> Result<Option<Vec<Shape>>,
         shapes.push(shape)?;
     }
     Ok(Some(shapes))
-}
-
-/// The shape of the types that are of a shape and that a value has.
-#[cycle(form)]
-fn shape_with(alloc: Global, all: &Shape, v: &Value) -> Result<Option<Shape>, OutOfMemory>
-    ensures { IfOk result (λ o. o ≡ joined (Some all.now) (form_of v.now)) }
-{
-    match Shape::of(alloc, v)? {
-        Some(shape) => all.join(alloc, &shape),
-        None => Ok(None),
-    }
-}
-
-/// The shape of the types that all these values have.
-#[cycle(form)]
-fn common_shape(alloc: Global, parts: &Chunks<Value>) -> Result<Option<Shape>, OutOfMemory>
-    ensures { IfOk result (λ o. o ≡ common (Some anything) (trees parts.now)) }
-{
-    let mut all = Shape::anything();
-    for i in 0..parts.len() {
-        let Some(next) = shape_with(alloc, &all, &parts[i])? else {
-            return Ok(None);
-        };
-        all = next;
-    }
-    Ok(Some(all))
-}
-
-/// The shape of the types that all keys have.
-#[cycle(form)]
-fn key_shape(alloc: Global, entries: &Chunks<Entry>) -> Result<Option<Shape>, OutOfMemory>
-    ensures { IfOk result (λ o. o ≡ common_key (Some anything) (pairs (map as_pair entries.now))) }
-{
-    let mut all = Shape::anything();
-    for i in 0..entries.len() {
-        let Some(next) = shape_with(alloc, &all, &entries[i].key)? else {
-            return Ok(None);
-        };
-        all = next;
-    }
-    Ok(Some(all))
-}
-
-/// The shape of the types that all associates have.
-#[cycle(form)]
-fn associate_shape(alloc: Global, entries: &Chunks<Entry>) -> Result<Option<Shape>, OutOfMemory>
-    ensures { IfOk result (λ o. o ≡ common_associate (Some anything) (pairs (map as_pair entries.now))) }
-{
-    let mut all = Shape::anything();
-    for i in 0..entries.len() {
-        let Some(next) = shape_with(alloc, &all, &entries[i].associate)? else {
-            return Ok(None);
-        };
-        all = next;
-    }
-    Ok(Some(all))
 }

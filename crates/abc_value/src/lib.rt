@@ -1,8 +1,10 @@
 //! Values: numbers, texts, compounds, lists and tables, with their order and sizes.
 #![tactic(auto)]
 
+mod common;
 mod compare;
 mod copy;
+mod elements;
 mod faults;
 mod forming;
 mod items;
@@ -16,6 +18,7 @@ mod shape;
 mod sizes;
 mod sorting;
 mod table;
+mod table_shapes;
 mod value;
 
 pub use faults::{PrintFault, RunFault, ValueFault};

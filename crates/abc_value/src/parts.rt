@@ -70,7 +70,7 @@ impl Value {
             Node::Number(_) => Kind::Number,
             Node::Text(_) => Kind::Text,
             Node::Compound(_) => Kind::Compound,
-            Node::List(parts) if parts.is_empty() => Kind::Empty,
+            Node::List(parts) if parts.items().is_empty() => Kind::Empty,
             Node::List(_) => Kind::List,
             Node::Table(_) => Kind::Table,
         }
@@ -102,8 +102,9 @@ impl Value {
         ensures { option_map (λ v. v.now) result ≡ slice_get (parts_of self.now) i }
     {
         match &self.node {
-            Node::Compound(parts) | Node::List(parts) => nth(parts, i),
-            Node::Table(entries) => nth_associate(entries, i),
+            Node::Compound(parts) => nth(parts, i),
+            Node::List(parts) => nth(parts.items(), i),
+            Node::Table(entries) => nth_associate(entries.items(), i),
             _ => None,
         }
     }
@@ -113,7 +114,7 @@ impl Value {
         ensures { option_map (λ v. v.now) result ≡ slice_get (keys_of self.now) i }
     {
         match &self.node {
-            Node::Table(entries) => nth_key(entries, i),
+            Node::Table(entries) => nth_key(entries.items(), i),
             _ => None,
         }
     }

@@ -123,12 +123,12 @@ fn add_display(bytes: &mut Vec<u8>, v: &Value, most: usize) -> Result<(), PrintF
         }
         Node::List(parts) => {
             append(bytes, b"{", most)?;
-            add_displays(bytes, parts, b"; ", most)?;
+            add_displays(bytes, parts.items(), b"; ", most)?;
             append(bytes, b"}", most)?;
         }
         Node::Table(entries) => {
             append(bytes, b"{", most)?;
-            add_pairs(bytes, entries, most)?;
+            add_pairs(bytes, entries.items(), most)?;
             append(bytes, b"}", most)?;
         }
     }

@@ -7,6 +7,7 @@ ghost use Rattle.abc_value.specs.inner.Heights.{others_height};
 ghost use Rattle.abc_value.specs.Sizes.{height_of, weight_of, sizes_fault, trees_height, pairs_height, trees_weight, pairs_weight, IsMakingOf};
 ghost use Rattle.abc_value.specs.Regular.{IsRegular, AllRegular, AllRegularPairs};
 
+use crate::elements::{Elements, Entries};
 use crate::value::Entry;
 use crate::{Value, ValueFault};
 use abc_chunks::Chunks;
@@ -95,19 +96,19 @@ fn tallest_entry(entries: &Chunks<Entry>, most: u32) -> u32
 
 /// The height of a list of these elements, which had the height `was` with one more, of height `gone`. It is looked for
 /// only where that one may have been the tallest.
-pub(crate) fn height_without(parts: &Chunks<Value>, was: u32, gone: u32) -> u32
+pub(crate) fn height_without(parts: &Elements, was: u32, gone: u32) -> u32
     requires { was ≡ max (gone + 1) (trees_height (trees parts.now)) }
     ensures { result ≡ trees_height (trees parts.now) }
 {
     if gone + 1 < was {
         return was;
     }
-    tallest(parts, was)
+    tallest(parts.items(), was)
 }
 
 /// The height of a table of these entries, which had the height `was` when a part stood in it that reaches `gone`; now one
 /// that reaches `came` stands there, or none, which is 0. It is looked for only where the tallest part went.
-pub(crate) fn height_after(entries: &Chunks<Entry>, was: u32, gone: u32, came: u32) -> u32
+pub(crate) fn height_after(entries: &Entries, was: u32, gone: u32, came: u32) -> u32
     requires { (rest : ℕ) × (was ≡ max gone rest) × (pairs_height (pairs (map as_pair entries.now)) ≡ max came rest) }
     ensures { result ≡ pairs_height (pairs (map as_pair entries.now)) }
 {
@@ -117,12 +118,12 @@ pub(crate) fn height_after(entries: &Chunks<Entry>, was: u32, gone: u32, came: u
     if came >= was {
         return came;
     }
-    tallest_entry(entries, was)
+    tallest_entry(entries.items(), was)
 }
 
 /// The height of a table of these entries, which has the height `was`, once the associate at this place reaches `came`. It is
 /// looked for only where the tallest part goes.
-pub(crate) fn height_with(entries: &Chunks<Entry>, place: usize, was: u32, came: u32) -> u32
+pub(crate) fn height_with(entries: &Entries, place: usize, was: u32, came: u32) -> u32
     requires place { place < length entries.now }
     requires height { was ≡ pairs_height (pairs (map as_pair entries.now)) }
     ensures { result ≡ max came (others_height entries.now place) }
@@ -138,7 +139,7 @@ pub(crate) fn height_with(entries: &Chunks<Entry>, place: usize, was: u32, came:
 }
 
 /// The height of a table of these entries, were the associate at this place not there.
-fn tallest_other(entries: &Chunks<Entry>, place: usize) -> u32
+fn tallest_other(entries: &Entries, place: usize) -> u32
     requires { place < length entries.now }
     ensures { result ≡ others_height entries.now place }
 {
@@ -150,7 +151,7 @@ fn tallest_other(entries: &Chunks<Entry>, place: usize) -> u32
 }
 
 /// The height of a table of the entries at these places.
-fn tallest_between(entries: &Chunks<Entry>, from: usize, to: usize) -> u32
+fn tallest_between(entries: &Entries, from: usize, to: usize) -> u32
     requires from { from ≤ to }
     requires to { to ≤ length entries.now }
     ensures { result ≡ pairs_height (pairs (map as_pair (between from to entries.now))) }

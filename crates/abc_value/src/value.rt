@@ -4,6 +4,7 @@ ghost use Rattle.abc_value.specs.Tree.{number, text, list, empty};
 ghost use Rattle.abc_value.specs.Sizes.{height_of, weight_of};
 ghost use Rattle.abc_value.specs.Regular.{IsRegular};
 
+use crate::elements::{Elements, Entries};
 use abc_chunks::Chunks;
 use abc_num::Num;
 use std::alloc::{AllocError, Global};
@@ -41,8 +42,8 @@ pub(crate) enum Node {
     Number(Num),
     Text(Rc<Vec<u8>>),
     Compound(Chunks<Value>),
-    List(Chunks<Value>),
-    Table(Chunks<Entry>),
+    List(Elements),
+    Table(Entries),
 }
 
 /// A key of a table and its associate.
@@ -70,7 +71,9 @@ impl Model for Value {
 
     ghost invariant = { λ v. (v.height ≡ height_of (node_tree v.node)) × (v.weight ≡ weight_of (node_tree v.node)) × IsRegular (node_tree v.node) };
 
-    ghost size = { height_of };
+    ghost use Rattle.abc_value.specs.Measures.{value_size};
+
+    ghost size = { value_size };
 
     ghost use Rattle.abc_value.specs.Falls.{deep-height};
 
@@ -110,7 +113,7 @@ impl Value {
         ensures { result ≡ empty }
     {
         Value {
-            node: Node::List(Chunks::new(alloc)),
+            node: Node::List(Elements::new(alloc)),
             height: 0,
             weight: 5,
         }

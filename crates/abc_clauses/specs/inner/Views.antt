@@ -1,6 +1,5 @@
 -- Answers of the code as the definitions see them.
-use Rattle.std.specs.Prelude.{◌≡◌, ◌<◌, Result, Ok, Err, ℕ, Bool, true, false, List, [], ◌∷◌, ◌++◌, length, All, Option, Some, None, option_map}
-use Rattle.abc_tree.specs.declared.commands.ActionNode.{ActionNode}
+use Rattle.std.specs.Prelude.{◌≡◌, Result, Ok, Err, ℕ, Bool, true, false, List, [], ◌∷◌, ◌++◌, All, Option, Some, None, option_map}
 use Rattle.abc_tree.specs.declared.formulas.Bound.{Bound}
 use Rattle.abc_tree.specs.declared.formulas.Expr.{Expr}
 use Rattle.abc_tree.specs.declared.templates.Template.{Template}
@@ -17,7 +16,6 @@ use Rattle.abc_clauses.specs.declared.headings.CommandTitle.{CommandTitle}
 use Rattle.abc_clauses.specs.declared.headings.Title.{Title}
 use Rattle.abc_clauses.specs.declared.lines.Saying.{Saying}
 use Rattle.abc_clauses.specs.declared.cuts.Cut.{Cut}
-use Rattle.abc_clauses.specs.declared.clause.Head.{Head}
 use Rattle.abc_clauses.specs.Readings.{Said, words_of}
 
 abbrev pub seen_cut : Cut → List Lexeme × List Lexeme

@@ -1,4 +1,4 @@
--- What a run comes to before its targets are settled, and the settling.
+-- What a run came to before its targets are put back, and which are put back.
 use Rattle.std.specs.Prelude.{◌≡◌, ◌-◌, ℕ, Result, Ok, Err}
 use Rattle.abc_frames.specs.Maps.{Targets}
 use Rattle.abc_outside.specs.Lines.{Unread, lines_in}
@@ -45,14 +45,14 @@ Ends (Err Input) s g = Unit {0}
 Ends (Err Memory) s g = Unit {0}
 
 -- the targets from before, unless the run came to its end
-abbrev pub settled_by : Outcome → Targets → Targets → Targets
-settled_by Done before now = now
-settled_by Quit before now = now
-settled_by o before now = before
+abbrev pub targets_after_outcome : Outcome → Targets → Targets → Targets
+targets_after_outcome Done before now = now
+targets_after_outcome Quit before now = now
+targets_after_outcome o before now = before
 
-abbrev pub settled : Result Ran RunStop → Targets → Targets → Targets
-settled (Ok r) before now = settled_by r.outcome before now
-settled (Err stop) before now = before
+abbrev pub targets_after : Result Ran RunStop → Targets → Targets → Targets
+targets_after (Ok r) before now = targets_after_outcome r.outcome before now
+targets_after (Err stop) before now = before
 
 -- For each input that may still be the reader's, what is pending now, over what is unread of it, leads to what the run from its start
 -- leads to, over all of it.

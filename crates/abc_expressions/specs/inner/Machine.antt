@@ -26,8 +26,8 @@ use Rattle.abc_expressions.specs.declared.frames.Operand.{Operand}
 use Rattle.abc_expressions.specs.declared.frames.Operand.TheVariants as o
 use Rattle.abc_expressions.specs.declared.frames.Reach.{Reach}
 use Rattle.abc_expressions.specs.declared.frames.Reach.TheVariants as r
-use Rattle.abc_expressions.specs.declared.frames.Settled.{Settled}
-use Rattle.abc_expressions.specs.declared.frames.Settled.TheVariants as done
+use Rattle.abc_expressions.specs.declared.frames.AfterPart.{AfterPart}
+use Rattle.abc_expressions.specs.declared.frames.AfterPart.TheVariants as done
 use Rattle.abc_expressions.specs.declared.frames.Turn.{Turn}
 use Rattle.abc_expressions.specs.declared.frames.Turn.TheVariants as turn
 use Rattle.abc_expressions.specs.declared.signs.Sign.{Sign}
@@ -134,29 +134,29 @@ sign_of (t.Text bytes) = s.Other
 sign_of t.Other = s.Other
 
 -- what a sign makes of a group behind its last operand
-abbrev pub settled : Group → Sign → Expr → Settled
-settled (g.Whole parts) s.Comma a = done.Goes (g.Whole (parts ++ a ∷ []))
-settled (g.Whole parts) _ a = done.Stops (compound (parts ++ a ∷ []))
-settled g.Single _ a = done.Stops a
-settled (g.Round parts) s.Comma a = done.Goes (g.Round (parts ++ a ∷ []))
-settled (g.Round parts) s.Close a = done.Gives (compound (parts ++ a ∷ []))
-settled (g.Round parts) _ a = done.Wrong
-settled (g.Select table parts) s.Comma a = done.Goes (g.Select table (parts ++ a ∷ []))
-settled (g.Select table parts) s.Unbracket a = done.Gives (e.Select table (compound (parts ++ a ∷ [])))
-settled (g.Select table parts) _ a = done.Wrong
-settled (g.Key pairs parts) s.Comma a = done.Goes (g.Key pairs (parts ++ a ∷ []))
-settled (g.Key pairs parts) s.Unbracket a = done.Keyed pairs (compound (parts ++ a ∷ []))
-settled (g.Key pairs parts) _ a = done.Wrong
-settled (g.Fill fills) s.PointPoint a = done.Goes (g.Range fills a)
-settled (g.Fill fills) s.Semicolon a = done.Goes (g.Fill (fills ++ fill.One a ∷ []))
-settled (g.Fill fills) s.Unbrace a = done.Gives (e.List (fills ++ fill.One a ∷ []))
-settled (g.Fill fills) _ a = done.Wrong
-settled (g.Range fills from) s.Semicolon a = done.Goes (g.Fill (fills ++ fill.Range from a ∷ []))
-settled (g.Range fills from) s.Unbrace a = done.Gives (e.List (fills ++ fill.Range from a ∷ []))
-settled (g.Range fills from) _ a = done.Wrong
-settled (g.Associate pairs key) s.Semicolon a = done.Again (pairs ++ paired key a ∷ [])
-settled (g.Associate pairs key) s.Unbrace a = done.Gives (e.Table (pairs ++ paired key a ∷ []))
-settled (g.Associate pairs key) _ a = done.Wrong
+abbrev pub after_part : Group → Sign → Expr → AfterPart
+after_part (g.Whole parts) s.Comma a = done.Goes (g.Whole (parts ++ a ∷ []))
+after_part (g.Whole parts) _ a = done.Stops (compound (parts ++ a ∷ []))
+after_part g.Single _ a = done.Stops a
+after_part (g.Round parts) s.Comma a = done.Goes (g.Round (parts ++ a ∷ []))
+after_part (g.Round parts) s.Close a = done.Gives (compound (parts ++ a ∷ []))
+after_part (g.Round parts) _ a = done.Wrong
+after_part (g.Select table parts) s.Comma a = done.Goes (g.Select table (parts ++ a ∷ []))
+after_part (g.Select table parts) s.Unbracket a = done.Gives (e.Select table (compound (parts ++ a ∷ [])))
+after_part (g.Select table parts) _ a = done.Wrong
+after_part (g.Key pairs parts) s.Comma a = done.Goes (g.Key pairs (parts ++ a ∷ []))
+after_part (g.Key pairs parts) s.Unbracket a = done.Keyed pairs (compound (parts ++ a ∷ []))
+after_part (g.Key pairs parts) _ a = done.Wrong
+after_part (g.Fill fills) s.PointPoint a = done.Goes (g.Range fills a)
+after_part (g.Fill fills) s.Semicolon a = done.Goes (g.Fill (fills ++ fill.One a ∷ []))
+after_part (g.Fill fills) s.Unbrace a = done.Gives (e.List (fills ++ fill.One a ∷ []))
+after_part (g.Fill fills) _ a = done.Wrong
+after_part (g.Range fills from) s.Semicolon a = done.Goes (g.Fill (fills ++ fill.Range from a ∷ []))
+after_part (g.Range fills from) s.Unbrace a = done.Gives (e.List (fills ++ fill.Range from a ∷ []))
+after_part (g.Range fills from) _ a = done.Wrong
+after_part (g.Associate pairs key) s.Semicolon a = done.Again (pairs ++ paired key a ∷ [])
+after_part (g.Associate pairs key) s.Unbrace a = done.Gives (e.Table (pairs ++ paired key a ∷ []))
+after_part (g.Associate pairs key) _ a = done.Wrong
 
 -- the same where the tokens end
 abbrev pub wholly : Group → Expr → Option Expr
@@ -164,13 +164,13 @@ wholly (g.Whole parts) a = Some (compound (parts ++ a ∷ []))
 wholly g.Single a = Some a
 wholly _ a = None
 
-abbrev pub settles : Settled → Next → ℕ → List Frame → ℕ → List Lexeme → Found
-settles (done.Goes group) next d stack k here = next d (f.Inside k group ∷ stack) (turn.Wants 1)
-settles (done.Gives a) next d stack k here = next (suc d) stack (turn.Has k 10 a)
-settles (done.Keyed pairs key) next d stack k here = next (suc d) stack (turn.Colon k pairs key)
-settles (done.Again pairs) next d stack k here = next d stack (turn.Pair k pairs)
-settles (done.Stops a) next d stack k here = Some (a, here)
-settles done.Wrong next d stack k here = None
+abbrev pub go_on_after : AfterPart → Next → ℕ → List Frame → ℕ → List Lexeme → Found
+go_on_after (done.Goes group) next d stack k here = next d (f.Inside k group ∷ stack) (turn.Wants 1)
+go_on_after (done.Gives a) next d stack k here = next (suc d) stack (turn.Has k 10 a)
+go_on_after (done.Keyed pairs key) next d stack k here = next (suc d) stack (turn.Colon k pairs key)
+go_on_after (done.Again pairs) next d stack k here = next d stack (turn.Pair k pairs)
+go_on_after (done.Stops a) next d stack k here = Some (a, here)
+go_on_after done.Wrong next d stack k here = None
 
 module _ (own : List (List ℕ)) (token : Lexeme) (ts : List Lexeme) (next : Next) (d : ℕ) where
   -- the frames that end before the token
@@ -178,7 +178,7 @@ module _ (own : List (List ℕ)) (token : Lexeme) (ts : List Lexeme) (next : Nex
   popped [] a = None
   popped (f.Between k i left ∷ stack) a = taken (within (reach own token) k i.gives) next d stack k (joined2 i.join left a) (popped stack (joined2 i.join left a))
   popped (f.Before k join ∷ stack) a = taken (within (reach own token) k 7) next d stack k (joined1 join a) (popped stack (joined1 join a))
-  popped (f.Inside k group ∷ stack) a = settles (settled group (sign_of token) a) next d stack k (token ∷ ts)
+  popped (f.Inside k group ∷ stack) a = go_on_after (after_part group (sign_of token) a) next d stack k (token ∷ ts)
 
 -- ---- in displays
 

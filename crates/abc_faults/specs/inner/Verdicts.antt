@@ -1,12 +1,10 @@
 -- What is found of one line, step by step.
-use Rattle.std.specs.Prelude.{◌≡◌, ◌≤◌, ◌⊎◌, ℕ, Bool, true, false, not, ◌&&◌, ◌||◌, nat_lt, List, [], ◌∷◌, ◌++◌, length, Option, Some, None, if◌then◌else◌}
+use Rattle.std.specs.Prelude.{◌≡◌, ◌≤◌, ◌⊎◌, ℕ, true, false, not, ◌&&◌, ◌||◌, nat_lt, List, [], ◌∷◌, ◌++◌, Option, Some, None, if◌then◌else◌}
 use Rattle.abc_num.specs.declared.limits.TheConstants.{MOST_LINES}
 use Rattle.abc_outline.specs.declared.edges.Place.{Place}
 use Rattle.abc_outline.specs.declared.rows.Row.{Row}
 use Rattle.abc_outline.specs.Outline.{outline_of}
 use Rattle.abc_clauses.specs.declared.clause.Clause.{Clause}
-use Rattle.abc_clauses.specs.declared.clause.Head.{Head}
-use Rattle.abc_clauses.specs.declared.clause.Head.TheVariants as head
 use Rattle.abc_faults.specs.declared.above.Above.{Above}
 use Rattle.abc_faults.specs.declared.facts.Facts.{Facts}
 use Rattle.abc_faults.specs.declared.fault.FaultKind.{FaultKind}

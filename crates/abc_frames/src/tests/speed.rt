@@ -2,7 +2,7 @@
 //! apart in the proof of a test; worked values are the rows of abc_rows.
 
 use super::{is_whole, whole};
-use abc_value::{Value, ValueFault};
+use abc_value::{Shape, Value, ValueFault};
 
 /// A list that the numbers come to in rising order, each to its end, and then one that they come to in falling order.
 #[test]
@@ -30,6 +30,19 @@ fn a_long_table_is_quick(rt: HostRuntime) -> Result<(), ValueFault> {
     for k in 0..100_000u32 {
         let key = i64::from(k);
         assert!(rt; is_whole(squares.get(&whole(key)), key * key));
+    }
+    Ok(())
+}
+
+/// A table that the keys come to one by one, and whose types are asked for each time.
+#[test]
+fn types_of_a_long_table_are_quick(rt: HostRuntime) -> Result<(), ValueFault> {
+    let mut squares = Value::empty(rt.alloc());
+    for k in 0..100_000u32 {
+        let key = i64::from(k);
+        squares.put(whole(key), whole(key * key))?;
+        let shape = Shape::of(rt.alloc(), &squares)?;
+        assert!(rt; shape.is_some());
     }
     Ok(())
 }

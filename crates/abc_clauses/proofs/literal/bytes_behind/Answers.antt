@@ -1,4 +1,4 @@
-use Rattle.std.proofs.Common.{◌≡◌, List, sym, ap, ◌∙◌, subst, All}
+use Rattle.std.proofs.Common.{List, sym, ap, ◌∙◌, subst, All}
 use Rattle.std.specs.Prelude.{Ok}
 use Rattle.abc_tokens.specs.Shape.{IsPlaced}
 use Rattle.abc_tokens.specs.declared.kinds.Token.{Token}

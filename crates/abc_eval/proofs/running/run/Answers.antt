@@ -11,7 +11,7 @@ use Rattle.abc_machine.specs.Machine.{pending, state_within}
 use Rattle.abc_machine.specs.declared.outcome.RunStop.TheVariants.{Input as NoInput, Long}
 use Rattle.abc_eval.specs.Runs.{WantsThere}
 use Rattle.abc_eval.proofs.Asking.{flow_wants, same_stop, wants_there_for}
-use Rattle.abc_eval.proofs.Settling.{comes, keeps_memory, keeps_steps, no_stop}
+use Rattle.abc_eval.proofs.PuttingBack.{comes, keeps_memory, keeps_steps, no_stop}
 use Rattle.abc_eval.proofs.running.run.Given.{Over}
 use Rattle.abc_eval.proofs.running.run.Goals.{After-drive}
 use Rattle.abc_eval.proofs.running.run.Goals as goal

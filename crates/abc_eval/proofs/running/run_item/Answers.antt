@@ -9,8 +9,8 @@ use Rattle.abc_meaning.specs.Ran.{ran, ran_as, standing, starting}
 use Rattle.abc_sound.specs.Checked.{IsNeverWrong}
 use Rattle.abc_ground.specs.Groups.{whole}
 use Rattle.abc_eval.specs.Runs.{WantsLine, WantsThere}
-use Rattle.abc_eval.specs.inner.Coming.{settled}
-use Rattle.abc_eval.proofs.Settling.{settled_run, stays_typable}
+use Rattle.abc_eval.specs.inner.Coming.{targets_after}
+use Rattle.abc_eval.proofs.PuttingBack.{run_after, stays_typable}
 use Rattle.abc_eval.proofs.Asking.{ran_wants, wants_there_for}
 use Rattle.abc_eval.proofs.running.run_item.Given.{Over}
 use Rattle.abc_eval.proofs.running.run_item.Goals.{After-run-answer, After-values_stay_regular}
@@ -56,11 +56,11 @@ returns-clause-typable g c = λ input may.
     let accepted = c.requires.accepted in
     let unread = g.L.Lines.unread input c.args.lines.now in
     let before : c.in-Ok.kept ≡ c.args.targets.now = search rules in
-    let after : c.settle.new.targets ≡ settled c.run-answer.result c.in-Ok.kept c.run-answer.new.targets = search rules in
-    let kept : OnErr c.run-answer.result (c.settle.new.targets ≡ c.args.targets.now) = search rules in
-    let run = settled_run c.run-answer.result c.args.targets.now c.in-Ok.kept c.run-answer.new.targets c.settle.new.targets (g.L.Lines.unread input c.run-answer.new.lines) c.args.steps (meant g at input) before after
+    let after : c.put_back_unless_done.new.targets ≡ targets_after c.run-answer.result c.in-Ok.kept c.run-answer.new.targets = search rules in
+    let kept : OnErr c.run-answer.result (c.put_back_unless_done.new.targets ≡ c.args.targets.now) = search rules in
+    let run = run_after c.run-answer.result c.args.targets.now c.in-Ok.kept c.run-answer.new.targets c.put_back_unless_done.new.targets (g.L.Lines.unread input c.run-answer.new.lines) c.args.steps (meant g at input) before after
     (c.run-answer.ensures.ran input may) in
-    stays_typable c.run-answer.result c.args.targets.now c.settle.new.targets (lines_in (g.L.Lines.unread input c.run-answer.new.lines)) (ran_as c.args.targets.now c.args.steps (meant g at input)) (whole c.args.units.now) run kept
+    stays_typable c.run-answer.result c.args.targets.now c.put_back_unless_done.new.targets (lines_in (g.L.Lines.unread input c.run-answer.new.lines)) (ran_as c.args.targets.now c.args.steps (meant g at input)) (whole c.args.units.now) run kept
     (accepted.2.0, accepted.2.1)
     (c.checked_items_are_never_wrong.ensures.typable c.args.units.now c.args.targets.now c.args.c.now accepted.0 accepted.1 accepted.2 1000 (lines_in unread) unread.ends c.args.steps
     (c.values_stay_regular.ensures.lines unread.ends unread.bytes))

@@ -1,4 +1,4 @@
-use Rattle.std.proofs.Common.{◌≡◌, List, [], ◌∷◌, ◌++◌, refl, sym, subst, arith}
+use Rattle.std.proofs.Common.{List, [], ◌∷◌, ◌++◌, refl, sym, subst, arith}
 use Rattle.abc_faults.specs.declared.sayings.Saying.{Saying}
 use Rattle.abc_faults.specs.Judging.{AreFit}
 use Rattle.abc_faults.specs.Sayings.{AllSay}

@@ -1,4 +1,3 @@
-use Rattle.std.proofs.Common.{◌≡◌}
 use Rattle.std.proofs.lemmas.Result.{IfOk-weaker}
 use Rattle.abc_faults.specs.inner.Verdicts.{Settles, Takes}
 use Rattle.abc_faults.proofs.Judgements.{takes}

@@ -1,4 +1,4 @@
-use Rattle.std.proofs.Common.{◌≡◌, ap, sym, ◌∙◌, subst}
+use Rattle.std.proofs.Common.{sym, ◌∙◌}
 use Rattle.abc_faults.specs.Facts.{clause_of}
 use Rattle.abc_faults.proofs.Judgements.{early_found, few_lines}
 use Rattle.abc_faults.proofs.verdict.judge_line.Goals as goal

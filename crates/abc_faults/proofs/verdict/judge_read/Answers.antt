@@ -1,4 +1,4 @@
-use Rattle.std.proofs.Common.{◌≡◌, ap, sym, ◌∙◌, subst}
+use Rattle.std.proofs.Common.{sym, ◌∙◌}
 use Rattle.abc_faults.proofs.Judgements.{judged_none, judged_clause}
 use Rattle.abc_faults.proofs.verdict.judge_read.Goals as goal
 

@@ -11,8 +11,8 @@ pub returns-then-x-y : goal.returns-then-x-y
 returns-then-x-y c =
     let x = c.args.x in
     let y = c.args.y in
-    let P : Bool → Type 0 = λ t. IsRatio (floor_mod (signed x.negative x.top *ℤ pos y.bottom) (signed t y.top *ℤ pos x.bottom)) (pos (x.bottom * y.bottom)) c.settle.result in
-    subst P (beq_same x.negative y.negative c.if-x-y.true) (far_same x.top x.bottom y.top y.bottom c.requires.left c.requires.right c.requires.far x.negative c.settle.result c.settle.ensures)
+    let P : Bool → Type 0 = λ t. IsRatio (floor_mod (signed x.negative x.top *ℤ pos y.bottom) (signed t y.top *ℤ pos x.bottom)) (pos (x.bottom * y.bottom)) c.bounded.result in
+    subst P (beq_same x.negative y.negative c.if-x-y.true) (far_same x.top x.bottom y.top y.bottom c.requires.left c.requires.right c.requires.far x.negative c.bounded.result c.bounded.ensures)
 
 pub returns-else-x-y : goal.returns-else-x-y
 returns-else-x-y c =

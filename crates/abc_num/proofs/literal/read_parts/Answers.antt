@@ -32,8 +32,8 @@ returns-in_default-checked_add c =
     let great = whole_too_great c.args.decimals.now x.top x.bottom w c.in-Some.ensures.some (omega (arith, past, product)) in
     rw c.in-Some-read_digits.ensures.some at great
 
-pub settle-requires-clause-lowest : goal.settle-requires-clause-lowest
-settle-requires-clause-lowest c =
+pub bounded-requires-clause-lowest : goal.bounded-requires-clause-lowest
+bounded-requires-clause-lowest c =
     let x = c.in-Some.rest in
     rw (c.in-Some-checked_add.ensures.1, c.in-Some-checked_mul.ensures.1) (coprime_more c.in-Some-read_digits.whole x.top x.bottom c.in-Some.ensures.some.lowest)
 
@@ -41,6 +41,6 @@ pub returns : goal.returns
 returns c =
     let x = c.in-Some.rest in
     let w = c.in-Some-read_digits.whole in
-    let settled = rw (c.in-Some-checked_add.ensures.1, c.in-Some-checked_mul.ensures.1) at c.settle.ensures in
-    let value = whole_and_tail c.args.decimals.now x.top x.bottom w c.settle.result c.in-Some.ensures.some settled in
+    let ratio_of_bounded = rw (c.in-Some-checked_add.ensures.1, c.in-Some-checked_mul.ensures.1) at c.bounded.ensures in
+    let value = whole_and_tail c.args.decimals.now x.top x.bottom w c.bounded.result c.in-Some.ensures.some ratio_of_bounded in
     rw c.in-Some-read_digits.ensures.some at value

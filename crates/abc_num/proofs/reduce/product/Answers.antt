@@ -25,15 +25,15 @@ returns-in_default-checked_mul c =
     let past : c.args.b / c.gcd-right.result * (c.args.d / c.gcd-left.result) < 2 ^ 128 → ⊥ = c.in_default-checked_mul.ensures in
     IsRatio-none _ _ (product_bottom _ _ _ _ _ _ c.requires.left_lowest c.requires.right_lowest c.gcd-left.ensures c.gcd-right.ensures c.requires.left_positive c.requires.right_positive c.args.negative (omega (arith, past)))
 
-pub settle-requires-clause-lowest : goal.settle-requires-clause-lowest
-settle-requires-clause-lowest c =
+pub bounded-requires-clause-lowest : goal.bounded-requires-clause-lowest
+bounded-requires-clause-lowest c =
     rw (c.in-Some.ensures.1, c.in-Some-checked_mul.ensures.1) (product_coprime _ _ _ _ _ _ c.requires.left_lowest c.requires.right_lowest c.gcd-left.ensures c.gcd-right.ensures c.requires.left_positive c.requires.right_positive)
 
-pub settle-requires-clause-positive : goal.settle-requires-clause-positive
-settle-requires-clause-positive c =
+pub bounded-requires-clause-positive : goal.bounded-requires-clause-positive
+bounded-requires-clause-positive c =
     rw c.in-Some-checked_mul.ensures.1 (bottom_pos _ _ _ _ _ _ c.requires.left_lowest c.requires.right_lowest c.gcd-left.ensures c.gcd-right.ensures c.requires.left_positive c.requires.right_positive)
 
 pub returns : goal.returns
 returns c =
-    product_ratio _ _ _ _ _ _ c.requires.left_lowest c.requires.right_lowest c.gcd-left.ensures c.gcd-right.ensures c.requires.left_positive c.requires.right_positive c.args.negative c.settle.result
-    (rw (c.in-Some.ensures.1, c.in-Some-checked_mul.ensures.1) at c.settle.ensures)
+    product_ratio _ _ _ _ _ _ c.requires.left_lowest c.requires.right_lowest c.gcd-left.ensures c.gcd-right.ensures c.requires.left_positive c.requires.right_positive c.args.negative c.bounded.result
+    (rw (c.in-Some.ensures.1, c.in-Some-checked_mul.ensures.1) at c.bounded.ensures)

@@ -9,5 +9,5 @@ returns-in_default c =
     let past : c.args.a * c.args.c < 2 ^ 128 → ⊥ = c.in_default.ensures in
     IsRatio-none _ _ (top_too_great c.args.negative (c.args.a * c.args.c) 1 (omega arith) (coprime_one _) (omega (arith, past)))
 
-pub settle-requires-clause-lowest : goal.settle-requires-clause-lowest
-settle-requires-clause-lowest c = coprime_one _
+pub bounded-requires-clause-lowest : goal.bounded-requires-clause-lowest
+bounded-requires-clause-lowest c = coprime_one _

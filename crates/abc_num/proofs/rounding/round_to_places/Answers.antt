@@ -10,7 +10,7 @@ use Rattle.abc_num.proofs.rounding.round_to_places.Goals as goal
 
 pub returns-then-divides_power : goal.returns-then-divides_power
 returns-then-divides_power c =
-    all_places c.args.x.negative c.args.x.top c.args.x.bottom _ c.settle.result (omega (arith, c.requires.bottom.0)) (power-positive 10 c.args.places (omega arith)) c.if-divides_power.ensures.divides c.settle.ensures
+    all_places c.args.x.negative c.args.x.top c.args.x.bottom _ c.bounded.result (omega (arith, c.requires.bottom.0)) (power-positive 10 c.args.places (omega arith)) c.if-divides_power.ensures.divides c.bounded.ensures
 
 pub returns : goal.returns
 returns c =

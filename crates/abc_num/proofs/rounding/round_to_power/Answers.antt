@@ -15,7 +15,7 @@ returns-then-places-gt38 c =
     let x = c.args.x in
     let many : 10 ^ 39 ≤ 10 ^ c.args.places = tens-at_most 39 c.args.places (omega (arith, c.if-places-gt38.true)) in
     let none = round_away x.negative x.top x.bottom (10 ^ c.args.places) c.requires.positive (omega (arith, c.requires.top)) in
-    subst (λ z. IsRatio z (pos 1) c.settle.result) (sym none) c.settle.ensures
+    subst (λ z. IsRatio z (pos 1) c.bounded.result) (sym none) c.bounded.ensures
 
 pub nonzero_rem-whole : goal.nonzero_rem-whole
 nonzero_rem-whole c = omega (arith, power-positive 10 c.args.places (omega arith), c.power_of_ten-power.ensures.power)
@@ -28,8 +28,8 @@ is_away-away-requires c =
     let positive : 0 < c.power_of_ten-power.result = omega (arith, power-positive 10 c.args.places (omega arith), c.power_of_ten-power.ensures.power) in
     (mod-lt _ positive, omega (arith, c.power_of_ten-power.ensures.small))
 
-pub settle-requires-2-clause-lowest : goal.settle-requires-2-clause-lowest
-settle-requires-2-clause-lowest c = coprime_one _
+pub bounded-requires-2-clause-lowest : goal.bounded-requires-2-clause-lowest
+bounded-requires-2-clause-lowest c = coprime_one _
 
 pub returns : goal.returns
 returns c =
@@ -45,5 +45,5 @@ returns c =
       | else-x w ↦ away_otherwise x.negative c.if-x.is_away x.bottom t _ (x.top / x.bottom % t) (x.top % x.bottom) half rest w.if-x.false w.is_away-is
     ] ∙ sym c.is_away-away.ensures in
     let value = round_tens x.negative u x.top x.bottom t c.requires.positive positive away in
-    let P : ℕ → Type 0 = λ p. IsRatio (nearest_of (signed x.negative x.top) (x.bottom * p) *ℤ pos p) (pos 1) c.settle-2.result in
-    subst P power (subst (λ z. IsRatio z (pos 1) c.settle-2.result) (sym value) (rw c.from.ensures at c.settle-2.ensures))
+    let P : ℕ → Type 0 = λ p. IsRatio (nearest_of (signed x.negative x.top) (x.bottom * p) *ℤ pos p) (pos 1) c.bounded-2.result in
+    subst P power (subst (λ z. IsRatio z (pos 1) c.bounded-2.result) (sym value) (rw c.from.ensures at c.bounded-2.ensures))

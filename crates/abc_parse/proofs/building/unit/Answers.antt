@@ -1,4 +1,4 @@
-use Rattle.abc_parse.proofs.Backward.{unit_parts_found}
+use Rattle.abc_parse.proofs.computing.Backward.{unit_parts_found}
 use Rattle.abc_parse.proofs.building.unit.Goals as goal
 
 pub unit_parts-requires : goal.unit_parts-requires

@@ -1,5 +1,5 @@
 use Rattle.abc_parse.specs.Items.{refinement_kind}
-use Rattle.abc_parse.proofs.Backward.{cuts_behind, left_none, no_misfit}
+use Rattle.abc_parse.proofs.computing.Backward.{cuts_behind, left_none, no_misfit}
 use Rattle.abc_parse.proofs.cutting.cut_lines.Goals as goal
 
 pub made_of-requires : goal.made_of-requires

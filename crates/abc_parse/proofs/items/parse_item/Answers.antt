@@ -1,5 +1,5 @@
-use Rattle.abc_parse.proofs.Said.{answers_slice, computed_of, fit_slice, tree_of}
-use Rattle.abc_parse.proofs.ItemsRegular.{answered}
+use Rattle.abc_parse.proofs.computing.Said.{answers_slice, computed_of, fit_slice, tree_of}
+use Rattle.abc_parse.proofs.regular.ItemsRegular.{answered}
 use Rattle.abc_parse.specs.RegularTemplates.{HasRegularTemplates}
 use Rattle.abc_parse.specs.RegularTrees.{IsNumberedItem, IsRegularItem}
 use Rattle.abc_parse.proofs.items.parse_item.Goals as goal

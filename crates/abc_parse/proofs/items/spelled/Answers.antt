@@ -1,5 +1,5 @@
 use Rattle.abc_faults.specs.Facts.{facts_of}
-use Rattle.abc_parse.proofs.Said.{found_judged, spelled_judged}
+use Rattle.abc_parse.proofs.computing.Said.{found_judged, spelled_judged}
 use Rattle.abc_parse.proofs.items.spelled.Goals as goal
 
 pub build-requires : goal.build-requires

@@ -1,4 +1,4 @@
-use Rattle.abc_parse.proofs.Whole.{faultless}
+use Rattle.abc_parse.proofs.spelling.Whole.{faultless}
 use Rattle.abc_parse.proofs.laws.faultless.Goals as goal
 
 pub returns : goal.returns

@@ -1,4 +1,4 @@
-use Rattle.abc_parse.proofs.ItemsRegular.{items_numbered}
+use Rattle.abc_parse.proofs.regular.ItemsRegular.{items_numbered}
 use Rattle.abc_parse.proofs.laws.numbered_items.Goals as goal
 
 pub returns : goal.returns

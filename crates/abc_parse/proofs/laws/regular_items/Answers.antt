@@ -1,4 +1,4 @@
-use Rattle.abc_parse.proofs.ItemsRegular.{items_regular}
+use Rattle.abc_parse.proofs.regular.ItemsRegular.{items_regular}
 use Rattle.abc_parse.proofs.laws.regular_items.Goals as goal
 
 pub returns : goal.returns

@@ -1,4 +1,4 @@
-use Rattle.abc_parse.proofs.TreesRegular.{templates_regular}
+use Rattle.abc_parse.proofs.regular.TreesRegular.{templates_regular}
 use Rattle.abc_parse.proofs.laws.regular_templates.Goals as goal
 
 pub returns : goal.returns

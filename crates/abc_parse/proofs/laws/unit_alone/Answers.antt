@@ -1,4 +1,4 @@
-use Rattle.abc_parse.proofs.Alone.{alone_computed, alone_fault, alone_tree}
+use Rattle.abc_parse.proofs.spelling.Alone.{alone_computed, alone_fault, alone_tree}
 use Rattle.abc_parse.proofs.laws.unit_alone.Goals as goal
 
 pub returns-clause-fault : goal.returns-clause-fault

@@ -1,6 +1,6 @@
 use Rattle.std.proofs.Common.{◌++◌, ap, sym, ◌∙◌}
 use Rattle.abc_parse.specs.Items.{numbered, shared_by}
-use Rattle.abc_parse.proofs.Taking.{shared_more}
+use Rattle.abc_parse.proofs.computing.Taking.{shared_more}
 use Rattle.abc_parse.proofs.shares.shared_names.Goals as goal
 
 pub loop-line-preserved : goal.loop-line-preserved

@@ -5,4 +5,4 @@ pub returns-clause-steady : goal.returns-clause-steady
 returns-clause-steady c = steady
 
 pub returns-clause-replies : goal.returns-clause-replies
-returns-clause-replies c check bounds steps k work later lines behind reply left quits = c.no_reply_is_empty.ensures (check work.kept lines) bounds steps k work later lines behind reply left quits
+returns-clause-replies c types bounds steps k work later lines behind reply left quits = c.no_reply_is_empty.ensures (types k) bounds steps k work later lines behind reply left quits

@@ -1,8 +1,13 @@
 use Rattle.std.proofs.Common.{rules, ◌≡◌, List, ℕ, inl, inr, refl, sym, ap, subst}
-use Rattle.std.specs.Prelude.{None, map}
+use Rattle.std.specs.Prelude.{None, map, length}
+use Rattle.abc_turns.specs.Session.{replies, works}
+use Rattle.abc_turns.specs.Stops.{IsBetween}
+use Rattle.abc_reader.specs.Asking.{Asked}
 use Rattle.abc_reader.proofs.Asks.{none_asked}
 use Rattle.abc_session.specs.Session.{session_of}
-use Rattle.abc_session.specs.Serving.{OpensTo}
+use Rattle.abc_session.specs.Settled.{AsksSettled}
+use Rattle.abc_session.specs.Serving.{OpensTo, IsSessionPoint}
+use Rattle.abc_session.proofs.Told.{by_all}
 use Rattle.abc_words.specs.Words.{reading}
 use Rattle.abc_session.specs.Run.{store_in, made_in, steps_in, steps_named, IsRun}
 use Rattle.abc_session.proofs.Broken.{idle_between}
@@ -55,16 +60,17 @@ returns-in-Err-Usage g c =
         untouched_stops = λ unmade told still at wrong. still_here g.H.Host.clock g.H.Host.stopped c.args.host.now old.image old.said still (g.met.H.Host.says_now c.args.host.now);
         chosen = λ told named is. absurd (cc (ap store_in none, is));
         none_chosen = λ _. refl;
-        asked = λ check exact told told_said told_input work start. none_asked _ _;
+        asked = λ told told_said told_input work start. by_all c.args.b.now (steps_named words) work old.left (λ types. Asked (AsksSettled types c.args.b.now (steps_named words) work old.left (length old.said)) old.asked old.asked) (λ types. none_asked _ _);
         asks_rise = search rules;
-        stands = λ check exact unmade told told_said told_input still work start. inr (record {
+        stands = λ unmade told told_said told_input still work start. inr (record {
           waiting = search rules;
           between = search rules;
           broken = search rules;
           cut_short = search rules;
         });
-        headline = λ check exact unmade told told_said told_input still work start.
-            still_point g.H.Host.clock g.H.Host.stopped c.args.host.now old.image old.said work (session_of check c.args.b.now (steps_named words) work old.left) still (g.met.H.Host.says_now c.args.host.now) start;
+        headline = λ unmade told told_said told_input still work start.
+            by_all c.args.b.now (steps_named words) work old.left (λ types. (i s : List ℕ) → g.H.Host.stopped c.args.host.now (g.H.Host.clock c.args.host.now) i s → IsSessionPoint work (session_of types c.args.b.now (steps_named words) work old.left) old.said i s) (λ types.
+            still_point g.H.Host.clock g.H.Host.stopped c.args.host.now old.image old.said work (session_of types c.args.b.now (steps_named words) work old.left) still (g.met.H.Host.says_now c.args.host.now) start);
         last = search rules;
         made = λ count is. absurd (cc (ap made_in none, is));
       };
@@ -91,16 +97,17 @@ returns-in-Err-Memory g c =
         untouched_stops = λ unmade told still at wrong. still_here g.H.Host.clock g.H.Host.stopped c.args.host.now old.image old.said still (g.met.H.Host.says_now c.args.host.now);
         chosen = λ told named is. inr (refl, inr (inr refl));
         none_chosen = λ _. refl;
-        asked = λ check exact told told_said told_input work start. none_asked _ _;
+        asked = λ told told_said told_input work start. by_all c.args.b.now (steps_named words) work old.left (λ types. Asked (AsksSettled types c.args.b.now (steps_named words) work old.left (length old.said)) old.asked old.asked) (λ types. none_asked _ _);
         asks_rise = search rules;
-        stands = λ check exact unmade told told_said told_input still work start. inr (record {
+        stands = λ unmade told told_said told_input still work start. inr (record {
           waiting = search rules;
-          between = λ is. idle_between work (session_of check c.args.b.now (steps_named words) work old.left) old.said old.said (g.H.Host.stopped c.args.host.now (g.H.Host.clock c.args.host.now)) refl (λ i s stop. subst (λ (m : List ℕ). OpensTo m work) (sym (still i s stop)) start.kept);
+          between = λ is. by_all c.args.b.now (steps_named words) work old.left (λ types. IsBetween OpensTo (works work (session_of types c.args.b.now (steps_named words) work old.left)) (replies (session_of types c.args.b.now (steps_named words) work old.left)) old.said old.said (g.H.Host.stopped c.args.host.now (g.H.Host.clock c.args.host.now))) (λ types. idle_between work (session_of types c.args.b.now (steps_named words) work old.left) old.said old.said (g.H.Host.stopped c.args.host.now (g.H.Host.clock c.args.host.now)) refl (λ i s stop. subst (λ (m : List ℕ). OpensTo m work) (sym (still i s stop)) start.kept));
           broken = search rules;
           cut_short = search rules;
         });
-        headline = λ check exact unmade told told_said told_input still work start.
-            still_point g.H.Host.clock g.H.Host.stopped c.args.host.now old.image old.said work (session_of check c.args.b.now (steps_named words) work old.left) still (g.met.H.Host.says_now c.args.host.now) start;
+        headline = λ unmade told told_said told_input still work start.
+            by_all c.args.b.now (steps_named words) work old.left (λ types. (i s : List ℕ) → g.H.Host.stopped c.args.host.now (g.H.Host.clock c.args.host.now) i s → IsSessionPoint work (session_of types c.args.b.now (steps_named words) work old.left) old.said i s) (λ types.
+            still_point g.H.Host.clock g.H.Host.stopped c.args.host.now old.image old.said work (session_of types c.args.b.now (steps_named words) work old.left) still (g.met.H.Host.says_now c.args.host.now) start);
         last = search rules;
         made = λ count is. made_idle g.H.Host.tells_said g.H.Host.now g.H.Host.clock g.H.Host.stopped count (steps_named words) c.args.host.now (g.met.H.Host.says_now c.args.host.now);
       };

@@ -1,5 +1,5 @@
 use Rattle.std.proofs.Common.{◌≡◌, ◌<◌, ◌⊎◌, inl, inr, ◌∙◌, ◌++◌, List, ℕ, length, take, refl, sym, ap, subst}
-use Rattle.std.specs.Prelude.{Result, Ok, Err, IsErrOf}
+use Rattle.std.specs.Prelude.{Option, Result, Ok, Err, IsErrOf}
 use Rattle.abc_outside.specs.Stop.{Leaves, IsQuiet}
 use Rattle.abc_outside.proofs.Leaves.{weaken}
 use Rattle.abc_turns.specs.Stops.{in_commit}
@@ -7,9 +7,9 @@ use Rattle.abc_turns.proofs.Points.{commit_then_say}
 use Rattle.abc_reader.specs.Asking.{Asked}
 use Rattle.abc_make.specs.Summary.{with_reply}
 use Rattle.abc_store.specs.View.{work_of}
+use Rattle.abc_outcome.specs.Checks.{IsTypeLineOf}
+use Rattle.abc_outcome.specs.Outcome.{outcome}
 use Rattle.abc_outcome.specs.Answers.{behind_at, work_in, CameTo, AsksInside}
-use Rattle.abc_outcome.specs.Checks.{Check, IsExact}
-use Rattle.abc_session.specs.Session.{outcome}
 use Rattle.abc_session.specs.Serving.{OpensTo, reply_in, IsItemStop}
 use Rattle.abc_outcome.specs.declared.answering.Answer.{Answer}
 use Rattle.abc_outcome.specs.declared.answering.AnswerFault.{AnswerFault}
@@ -19,88 +19,98 @@ use Rattle.abc_session.specs.declared.serve.ServeStop.{ServeStop}
 use Rattle.abc_session.specs.declared.serve.ServeStop.TheVariants as serve
 use Rattle.abc_session.proofs.Places.{came_here}
 use Rattle.abc_session.proofs.Saying.{saying_stops}
-use Rattle.abc_session.proofs.Stops.{stopped_either}
+use Rattle.abc_session.proofs.Stops.{stopped_by, stopped_either, stopped_three}
 use Rattle.abc_session.proofs.serve.serve_item.Given.{Over}
 use Rattle.abc_session.proofs.serve.serve_item.Goals.{After-say_all}
 use Rattle.abc_session.proofs.serve.serve_item.Goals as goal
 
 -- what the item came to, where its reply is said
-answered : (g : Over) (c : After-say_all g) (check : Check) (exact : IsExact check) → g.H.Host.tells_input
-    → CameTo (outcome check c.args.store.now.bounds c.args.steps c.args.k (work_of c.args.store.now) c.args.item.now) c.args.reader.now (g.H.Host.now c.args.host.now).left c.answer_item.new.reader (g.H.Host.now c.say_all.new.host).left
+answered : (g : Over) (c : After-say_all g) (line : Option ℕ) (is_line : IsTypeLineOf c.args.store.now.kept c.args.item.now line) → g.H.Host.tells_input
+    → CameTo (outcome line c.args.store.now.bounds c.args.steps c.args.k (work_of c.args.store.now) c.args.item.now) c.args.reader.now (g.H.Host.now c.args.host.now).left c.answer_item.new.reader (g.H.Host.now c.say_all.new.host).left
     (work_of c.answer_item.new.store) c.in-Ok.answered
-answered g c check exact told =
-    subst (λ (l : List ℕ). CameTo (outcome check c.args.store.now.bounds c.args.steps c.args.k (work_of c.args.store.now) c.args.item.now) c.args.reader.now (g.H.Host.now c.args.host.now).left c.answer_item.new.reader l
-    (work_of c.answer_item.new.store) c.in-Ok.answered) (sym c.say_all.ensures.rest.left) ((c.in-Ok.ensures.comes (check c.args.store.now.kept c.args.item.now) (exact c.args.store.now.kept c.args.item.now)).came told)
+answered g c line is_line told =
+    subst (λ (l : List ℕ). CameTo (outcome line c.args.store.now.bounds c.args.steps c.args.k (work_of c.args.store.now) c.args.item.now) c.args.reader.now (g.H.Host.now c.args.host.now).left c.answer_item.new.reader l
+    (work_of c.answer_item.new.store) c.in-Ok.answered) (sym c.say_all.ensures.rest.left) ((c.in-Ok.ensures.comes line is_line).came told)
 
 -- the commit, and then the saying
-served : (g : Over) (c : After-say_all g) (check : Check) (exact : IsExact check) → g.H.Host.tells_image → g.H.Host.tells_said → g.H.Host.tells_input → IsQuiet g.H.Host.clock g.H.Host.stopped c.args.host.now (g.H.Host.now c.args.host.now).image
+served : (g : Over) (c : After-say_all g) (line : Option ℕ) (is_line : IsTypeLineOf c.args.store.now.kept c.args.item.now line) → g.H.Host.tells_image → g.H.Host.tells_said → g.H.Host.tells_input → IsQuiet g.H.Host.clock g.H.Host.stopped c.args.host.now (g.H.Host.now c.args.host.now).image
     → Leaves g.H.Host.clock g.H.Host.stopped c.args.host.now c.say_all.new.host
-    (IsItemStop (work_of c.args.store.now) (outcome check c.args.store.now.bounds c.args.steps c.args.k (work_of c.args.store.now) c.args.item.now (behind_at c.args.reader.now (g.H.Host.now c.args.host.now).left)) (g.H.Host.now c.args.host.now).said)
-served g c check exact told told_said told_input quiet =
+    (IsItemStop (work_of c.args.store.now) (outcome line c.args.store.now.bounds c.args.steps c.args.k (work_of c.args.store.now) c.args.item.now (behind_at c.args.reader.now (g.H.Host.now c.args.host.now).left)) (g.H.Host.now c.args.host.now).said)
+served g c line is_line told told_said told_input quiet =
     let work = work_of c.args.store.now in
     let old = g.H.Host.now c.args.host.now in
     let mid = g.H.Host.now c.answer_item.new.host in
-    let out = outcome check c.args.store.now.bounds c.args.steps c.args.k work c.args.item.now (behind_at c.args.reader.now old.left) in
-    let is = came_here (outcome check c.args.store.now.bounds c.args.steps c.args.k work c.args.item.now) c.args.reader.now c.answer_item.new.reader old.left mid.left (work_of c.answer_item.new.store) c.in-Ok.answered ((c.in-Ok.ensures.comes (check c.args.store.now.kept c.args.item.now) (exact c.args.store.now.kept c.args.item.now)).came told_input) in
+    let out = outcome line c.args.store.now.bounds c.args.steps c.args.k work c.args.item.now (behind_at c.args.reader.now old.left) in
+    let is = came_here (outcome line c.args.store.now.bounds c.args.steps c.args.k work c.args.item.now) c.args.reader.now c.answer_item.new.reader old.left mid.left (work_of c.answer_item.new.store) c.in-Ok.answered ((c.in-Ok.ensures.comes line is_line).came told_input) in
     commit_then_say g.H.Host.clock g.H.Host.stopped OpensTo c.args.host.now c.answer_item.new.host c.say_all.new.host work (work_in work out) (reply_in out) old.said
-    ((c.answer_item.ensures.comes (check c.args.store.now.kept c.args.item.now) (exact c.args.store.now.kept c.args.item.now)).stops told told_input quiet)
+    ((c.answer_item.ensures.comes line is_line).stops told told_input quiet)
     (saying_stops g.H.Host.clock g.H.Host.stopped c.answer_item.new.host c.say_all.new.host mid.image old.said mid.said c.bytes-reply.result.now (reply_in out) (work_of c.answer_item.new.store) (work_in work out)
     (ap reply_in is ∙ sym c.bytes-reply.ensures) c.answer_item.ensures.keeps.said (sym (ap (work_in work) is)) (c.in-Ok.ensures.keeps.holds told) (c.in-Ok.ensures.keeps.quiet told quiet) (c.say_all.ensures.stops told_said))
 
 pub returns-in-Ok-say_all-clause-stops : goal.returns-in-Ok-say_all-clause-stops
-returns-in-Ok-say_all-clause-stops g c check exact told told_said told_input quiet = served g (goal.at.returns-in-Ok-say_all-clause-stops g c).After-say_all check exact told told_said told_input quiet
+returns-in-Ok-say_all-clause-stops g c line is_line told told_said told_input quiet = served g (goal.at.returns-in-Ok-say_all-clause-stops g c).After-say_all line is_line told told_said told_input quiet
 
 pub returns-clause-stops : goal.returns-clause-stops
-returns-clause-stops g c check exact told told_said told_input quiet = served g (goal.at.returns-clause-stops g c).After-say_all check exact told told_said told_input quiet
+returns-clause-stops g c line is_line told told_said told_input quiet = served g (goal.at.returns-clause-stops g c).After-say_all line is_line told told_said told_input quiet
 
 pub returns-in-Ok-say_all-clause-served : goal.returns-in-Ok-say_all-clause-served
-returns-in-Ok-say_all-clause-served g c check exact told_input = record {
+returns-in-Ok-say_all-clause-served g c line is_line told_input = record {
   answer = c.in-Ok.answered;
-  answered = answered g (goal.at.returns-in-Ok-say_all-clause-served g c).After-say_all check exact told_input;
+  answered = answered g (goal.at.returns-in-Ok-say_all-clause-served g c).After-say_all line is_line told_input;
   quits = refl;
   counts = c.add.ensures ∙ ap (with_reply c.args.tally.now) c.bytes-reply.ensures;
   said_is = λ told_said. c.in-Ok-say_all.ensures.all told_said ∙ ap (λ (l : List ℕ). l ++ c.bytes-reply.result.now) c.answer_item.ensures.keeps.said ∙ ap (λ (l : List ℕ). (g.H.Host.now c.args.host.now).said ++ l) c.bytes-reply.ensures;
 }
 
 pub returns-clause-cut : goal.returns-clause-cut
-returns-clause-cut g c check exact told_said told_input fault =
+returns-clause-cut g c line is_line told_said told_input fault =
     let part = c.in-Err-say_all.ensures.part told_said in
     record {
       answer = c.in-Ok.answered;
-      answered = answered g (goal.at.returns-clause-cut g c).After-say_all check exact told_input;
+      answered = answered g (goal.at.returns-clause-cut g c).After-say_all line is_line told_input;
       count = part.0;
       short = subst (λ (l : List ℕ). part.0 < length l) c.bytes-reply.ensures part.1;
       said_is = part.2 ∙ ap (λ (l : List ℕ). l ++ take part.0 c.bytes-reply.result.now) c.answer_item.ensures.keeps.said ∙ ap (λ (l : List ℕ). (g.H.Host.now c.args.host.now).said ++ take part.0 l) c.bytes-reply.ensures;
     }
 
 pub returns-in-Err-clause-asked : goal.returns-in-Err-clause-asked
-returns-in-Err-clause-asked g c check exact told_said told =
-    (c.answer_item.ensures.comes (check c.args.store.now.kept c.args.item.now) (exact c.args.store.now.kept c.args.item.now)).asked told_said told
+returns-in-Err-clause-asked g c line is_line told_said told =
+    (c.answer_item.ensures.comes line is_line).asked told_said told
 
 -- what was asked for in the answer; the saying asks for nothing
-asked_then_said : (g : Over) (c : After-say_all g) (check : Check) (exact : IsExact check) → g.H.Host.tells_said → g.H.Host.tells_input
-    → Asked (AsksInside (outcome check c.args.store.now.bounds c.args.steps c.args.k (work_of c.args.store.now) c.args.item.now) c.args.reader.now (g.H.Host.now c.args.host.now).left (length (g.H.Host.now c.args.host.now).said))
+asked_then_said : (g : Over) (c : After-say_all g) (line : Option ℕ) (is_line : IsTypeLineOf c.args.store.now.kept c.args.item.now line) → g.H.Host.tells_said → g.H.Host.tells_input
+    → Asked (AsksInside (outcome line c.args.store.now.bounds c.args.steps c.args.k (work_of c.args.store.now) c.args.item.now) c.args.reader.now (g.H.Host.now c.args.host.now).left (length (g.H.Host.now c.args.host.now).said))
     (g.H.Host.now c.args.host.now).asked (g.H.Host.now c.say_all.new.host).asked
-asked_then_said g c check exact told_said told =
+asked_then_said g c line is_line told_said told =
     let old = g.H.Host.now c.args.host.now in
-    subst (λ (a : List (ℕ × ℕ)). Asked (AsksInside (outcome check c.args.store.now.bounds c.args.steps c.args.k (work_of c.args.store.now) c.args.item.now) c.args.reader.now old.left (length old.said)) old.asked a)
-    (sym c.say_all.ensures.rest.asked) ((c.answer_item.ensures.comes (check c.args.store.now.kept c.args.item.now) (exact c.args.store.now.kept c.args.item.now)).asked told_said told)
+    subst (λ (a : List (ℕ × ℕ)). Asked (AsksInside (outcome line c.args.store.now.bounds c.args.steps c.args.k (work_of c.args.store.now) c.args.item.now) c.args.reader.now old.left (length old.said)) old.asked a)
+    (sym c.say_all.ensures.rest.asked) ((c.answer_item.ensures.comes line is_line).asked told_said told)
 
 pub returns-in-Ok-say_all-clause-asked : goal.returns-in-Ok-say_all-clause-asked
-returns-in-Ok-say_all-clause-asked g c check exact told_said told = asked_then_said g (goal.at.returns-in-Ok-say_all-clause-asked g c).After-say_all check exact told_said told
+returns-in-Ok-say_all-clause-asked g c line is_line told_said told = asked_then_said g (goal.at.returns-in-Ok-say_all-clause-asked g c).After-say_all line is_line told_said told
 
 pub returns-clause-asked : goal.returns-clause-asked
-returns-clause-asked g c check exact told_said told = asked_then_said g (goal.at.returns-clause-asked g c).After-say_all check exact told_said told
+returns-clause-asked g c line is_line told_said told = asked_then_said g (goal.at.returns-clause-asked g c).After-say_all line is_line told_said told
 
 pub returns-in-Err-clause-wants : goal.returns-in-Err-clause-wants
-returns-in-Err-clause-wants g c check exact told stops =
-    (c.answer_item.ensures.comes (check c.args.store.now.kept c.args.item.now) (exact c.args.store.now.kept c.args.item.now)).waits told
+returns-in-Err-clause-wants g c line is_line told stops =
+    (c.answer_item.ensures.comes line is_line).waits told
     (stopped_either c.answer_item.result c.in-Err.fault c.stop_of_answer.result c.in-Err.is answer.Input answer.Long serve.Input serve.Long c.stop_of_answer.ensures.input c.stop_of_answer.ensures.long stops)
 
+pub returns-in-Err-clause-unsound : goal.returns-in-Err-clause-unsound
+returns-in-Err-clause-unsound g c stops =
+    c.answer_item.ensures.keeps.unsound
+    (stopped_by c.answer_item.result c.in-Err.fault c.stop_of_answer.result c.in-Err.is answer.StoreFault serve.StoreFault c.stop_of_answer.ensures.store_fault stops)
+
+pub returns-in-Err-clause-same : goal.returns-in-Err-clause-same
+returns-in-Err-clause-same g c stops =
+    c.answer_item.ensures.keeps.same
+    (stopped_three c.answer_item.result c.in-Err.fault c.stop_of_answer.result c.in-Err.is answer.Memory answer.Input answer.Long serve.Memory serve.Input serve.Long c.stop_of_answer.ensures.memory c.stop_of_answer.ensures.input c.stop_of_answer.ensures.long stops)
+
 pub returns-in-Err-clause-stops : goal.returns-in-Err-clause-stops
-returns-in-Err-clause-stops g c check exact told told_said told_input quiet =
+returns-in-Err-clause-stops g c line is_line told told_said told_input quiet =
     weaken g.H.Host.clock g.H.Host.stopped c.args.host.now c.answer_item.new.host _ _
-    ((c.answer_item.ensures.comes (check c.args.store.now.kept c.args.item.now) (exact c.args.store.now.kept c.args.item.now)).stops told told_input quiet) (λ i s p. in_commit p)
+    ((c.answer_item.ensures.comes line is_line).stops told told_input quiet) (λ i s p. in_commit p)
 
 -- an item that was answered has a type line
 told_so : {X A : Type 0} (P N : Type 0) (x : X) → P ⊎ (IsErrOf {T = X} (Ok x) answer.Memory × N) → P ⊎ A

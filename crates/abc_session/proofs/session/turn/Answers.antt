@@ -1,5 +1,5 @@
 use Rattle.std.proofs.Common.{rules, ◌≡◌, ◌+◌, suc, List, ℕ, Bool, true, false, Some, refl, sym, ap, subst, arith, inl, inr}
-use Rattle.std.specs.Prelude.{◌⊎◌, not, Result, Ok, IsErrOf}
+use Rattle.std.specs.Prelude.{◌⊎◌, Option, None, not, Result, Ok, IsErrOf}
 use Rattle.std.proofs.lemmas.Bool.{false_from_ne_true}
 use Rattle.abc_outside.specs.Stop.{Leaves, IsQuiet, Extends}
 use Rattle.abc_make.specs.Summary.{counted_from}
@@ -9,15 +9,20 @@ use Rattle.abc_reader.specs.Items.{next_item}
 use Rattle.abc_reader.specs.Reading.{TookItem}
 use Rattle.abc_reader.proofs.Asks.{rising_then}
 use Rattle.abc_store.specs.View.{work_of}
-use Rattle.abc_outcome.specs.Checks.{Check, IsExact}
+use Rattle.abc_outcome.specs.Checks.{IsTypeLineOf}
+use Rattle.abc_outcome.specs.Answers.{NothingDone}
+use Rattle.abc_session.specs.Session.{Told}
+use Rattle.abc_session.specs.declared.serve.Served.{Served}
+use Rattle.abc_session.specs.declared.serve.ServeStop.{ServeStop}
+use Rattle.abc_session.proofs.Told.{none_told, line_of, one_told}
 use Rattle.abc_session.specs.Serving.{OpensTo, IsSessionPoint}
-use Rattle.abc_session.specs.Place.{Place, place_at, input_ends, lines_left, session_at, WantsInput, AsksInput}
+use Rattle.abc_session.specs.Place.{Place, place_at, input_ends, lines_left, session_at, AreToldAt, AreThere, WithNext, by_any, by_line, WantsInput, AsksInput}
 use Rattle.abc_session.specs.declared.serve.ServeStop.TheVariants as item
 use Rattle.abc_session.specs.declared.session.SessionStop.{SessionStop}
 use Rattle.abc_session.specs.declared.session.SessionStop.TheVariants as session
 use Rattle.abc_session.proofs.Stops.{stopped_by, stopped_either, stopped_three}
 use Rattle.abc_session.proofs.Turns.{reading_stops, item_stops, item_broken, item_cut}
-use Rattle.abc_session.proofs.Places.{first_item, past_item, past_quit, past_end, none_left, counts_on, counts_last, wants_item, wants_line, asks_item, asks_inside}
+use Rattle.abc_session.proofs.Places.{first_item, none_next, past_item, past_quit, past_end, none_left, counts_on, counts_last, wants_item, wants_line, asks_item, asks_inside}
 use Rattle.abc_session.proofs.Broken.{quiet_opens}
 use Rattle.abc_session.proofs.session.turn.Given.{Over}
 use Rattle.abc_session.proofs.session.turn.Goals.{After-next_item, After-serve_item}
@@ -27,12 +32,12 @@ abbrev here : (g : Over) → After-next_item g → Place
 here g c = place_at c.args.served.now (work_of c.args.store.now) c.args.reader.now (g.H.Host.now c.args.host.now)
 
 -- while the item is read nothing changes
-reading : (g : Over) (c : After-next_item g) (check : Check) (exact : IsExact check) → g.H.Host.tells_image → IsQuiet g.H.Host.clock g.H.Host.stopped c.args.host.now (g.H.Host.now c.args.host.now).image
+reading : (g : Over) (c : After-next_item g) (types : Told) → g.H.Host.tells_image → IsQuiet g.H.Host.clock g.H.Host.stopped c.args.host.now (g.H.Host.now c.args.host.now).image
     → Leaves g.H.Host.clock g.H.Host.stopped c.args.host.now c.next_item.new.host
-    (IsSessionPoint (work_of c.args.store.now) (session_at check c.args.store.now.bounds c.args.steps (here g c)) (g.H.Host.now c.args.host.now).said)
-reading g c check exact told quiet =
+    (IsSessionPoint (work_of c.args.store.now) (session_at types c.args.store.now.bounds c.args.steps (here g c)) (g.H.Host.now c.args.host.now).said)
+reading g c types told quiet =
     reading_stops g.H.Host.clock g.H.Host.stopped c.args.host.now c.next_item.new.host (work_of c.args.store.now) (g.H.Host.now c.args.host.now).image (g.H.Host.now c.args.host.now).said
-    (c.requires.holds told) quiet (g.met.H.Host.says_now c.args.host.now) (session_at check c.args.store.now.bounds c.args.steps (here g c)) c.next_item.ensures.reads_on.stops
+    (c.requires.holds told) quiet (g.met.H.Host.says_now c.args.host.now) (session_at types c.args.store.now.bounds c.args.steps (here g c)) c.next_item.ensures.reads_on.stops
 
 quiet_still : (g : Over) (c : After-next_item g) → IsQuiet g.H.Host.clock g.H.Host.stopped c.args.host.now (g.H.Host.now c.args.host.now).image → IsQuiet g.H.Host.clock g.H.Host.stopped c.next_item.new.host (g.H.Host.now c.next_item.new.host).image
 quiet_still g c quiet i s stop = subst (λ m. Extends m i) (sym c.next_item.ensures.reads_on.rest.image) (quiet i s (c.next_item.ensures.reads_on.now i s stop))
@@ -42,10 +47,10 @@ still_opens : (g : Over) (c : After-next_item g) → g.H.Host.tells_image → Is
 still_opens g c told quiet i s stop =
     quiet_opens g.H.Host.clock g.H.Host.stopped c.args.host.now (g.H.Host.now c.args.host.now).image (work_of c.args.store.now) (c.requires.holds told) quiet i s (c.next_item.ensures.reads_on.now i s stop)
 
-asks_reading : (g : Over) (c : After-next_item g) (check : Check) (exact : IsExact check) → g.H.Host.tells_said → g.H.Host.tells_input
-    → Asked (AsksInput check c.args.store.now.bounds c.args.steps (here g c)) (g.H.Host.now c.args.host.now).asked (g.H.Host.now c.next_item.new.host).asked
-asks_reading g c check exact told_said told =
-    asks_item check c.args.store.now.bounds c.args.steps (here g c) (g.H.Host.now c.args.host.now).asked (g.H.Host.now c.next_item.new.host).asked (c.next_item.ensures.asked told_said told)
+asks_reading : (g : Over) (c : After-next_item g) (types : Told) → g.H.Host.tells_said → g.H.Host.tells_input
+    → Asked (AsksInput types c.args.store.now.bounds c.args.steps (here g c)) (g.H.Host.now c.args.host.now).asked (g.H.Host.now c.next_item.new.host).asked
+asks_reading g c types told_said told =
+    asks_item types c.args.store.now.bounds c.args.steps (here g c) (g.H.Host.now c.args.host.now).asked (g.H.Host.now c.next_item.new.host).asked (c.next_item.ensures.asked told_said told)
 
 -- where the item was read, where it is served, and where that led
 abbrev old : (g : Over) → After-serve_item g → Place
@@ -66,20 +71,58 @@ taken g c told = (rw c.in-Ok-Some.field-0-is at c.in-Ok-Some.ensures.item) told
 first_of : (g : Over) (c : After-serve_item g) → g.H.Host.tells_input → next_item (input_ends (old g c)) (lines_left (old g c)) ≡ whole_item c.in-Ok-Some.item (lines_left (mid g c))
 first_of g c told = first_item (old g c).reading (mid g c).reading (old g c).left (mid g c).left c.in-Ok-Some.item (taken g c told)
 
-serving : (g : Over) (c : After-serve_item g) (check : Check) (exact : IsExact check) → g.H.Host.tells_image → g.H.Host.tells_said → g.H.Host.tells_input
-    → Leaves g.H.Host.clock g.H.Host.stopped c.args.host.now c.next_item.new.host (IsSessionPoint (old g c).work (session_at check c.args.store.now.bounds c.args.steps (old g c)) (old g c).said)
-    → IsQuiet g.H.Host.clock g.H.Host.stopped c.next_item.new.host (g.H.Host.now c.next_item.new.host).image
-    → Leaves g.H.Host.clock g.H.Host.stopped c.args.host.now c.serve_item.new.host (IsSessionPoint (old g c).work (session_at check c.args.store.now.bounds c.args.steps (old g c)) (old g c).said)
-serving g c check exact told told_said told_input read quiet =
-    item_stops check c.args.store.now.bounds c.args.steps (old g c) (mid g c) c.in-Ok-Some.item (first_of g c told_input) (taken g c told_input).were_read.ends (next_number c.args.served.now) refl c.next_item.ensures.reads_on.rest.said
-    g.H.Host.clock g.H.Host.stopped c.next_item.new.host c.serve_item.new.host c.args.host.now read ((c.serve_item.ensures.stops check exact) told told_said told_input quiet)
+-- the line that is told of the item
+line_here : (g : Over) (c : After-serve_item g) (types : Told) → g.H.Host.tells_input → AreToldAt types c.args.store.now.bounds c.args.steps (old g c) 1 → IsTypeLineOf c.args.store.now.kept c.in-Ok-Some.item (types (c.args.served.now + 1))
+line_here g c types told are =
+    subst (λ n. IsTypeLineOf c.args.store.now.kept c.in-Ok-Some.item (types n)) (sym (next_number c.args.served.now))
+    (line_of types c.args.store.now.bounds c.args.steps (old g c) c.in-Ok-Some.item (lines_left (mid g c)) (first_of g c told) are)
 
-asks_serving : (g : Over) (c : After-serve_item g) (check : Check) (exact : IsExact check) → Asked (AsksInput check c.args.store.now.bounds c.args.steps (old g c)) (g.H.Host.now c.args.host.now).asked (g.H.Host.now c.next_item.new.host).asked → g.H.Host.tells_said → g.H.Host.tells_input
-    → Asked (AsksInput check c.args.store.now.bounds c.args.steps (old g c)) (g.H.Host.now c.args.host.now).asked (g.H.Host.now c.serve_item.new.host).asked
-asks_serving g c check exact so_far told_said told =
-    asks_inside check c.args.store.now.bounds c.args.steps (old g c) (mid g c) c.in-Ok-Some.item (taken g c told) (next_number c.args.served.now) refl c.next_item.ensures.reads_on.rises (c.next_item.ensures.reads_on.total told)
+abbrev HasLine : (g : Over) → After-serve_item g → Type 0
+HasLine g c = (line : Option ℕ) × IsTypeLineOf c.args.store.now.kept c.in-Ok-Some.item line
+
+line_there : (g : Over) (c : After-serve_item g) → g.H.Host.tells_input → HasLine g c → AreThere c.args.store.now.bounds c.args.steps (old g c) 1
+line_there g c told has = record {
+  types = λ _. has.0;
+  are_told = one_told (λ _. has.0) c.args.store.now.bounds c.args.steps (old g c) c.in-Ok-Some.item (lines_left (mid g c)) (first_of g c told) has.1;
+}
+
+-- an item that was answered has a type line, and one that was not has one too, but for want of memory
+answered_line : (P N : Type 0) (done : Served) → P ⊎ (IsErrOf {T = Served} (Ok done) item.Memory × N) → P
+answered_line P N done (inl has) = has
+answered_line P N done (inr none) = let starved = none.0 in absurd (cc starved)
+
+failed_line : (P N : Type 0) (r : Result Served ServeStop) → (IsErrOf r item.Memory → ⊥) → P ⊎ (IsErrOf r item.Memory × N) → P
+failed_line P N r fed (inl has) = has
+failed_line P N r fed (inr none) = absurd (fed none.0)
+
+not_starved : (r : Result Served ServeStop) → IsErrOf r item.Input ⊎ IsErrOf r item.Long → IsErrOf r item.Memory → ⊥
+not_starved r (inl is) starved = absurd (cc (is, starved))
+not_starved r (inr is) starved = absurd (cc (is, starved))
+
+-- by the line of an item that was not answered; or nothing was done
+by_told : (g : Over) (c : After-serve_item g) → g.H.Host.tells_input → (X : Told → Type 0) → ((types : Told) → IsTypeLineOf c.args.store.now.kept c.in-Ok-Some.item (types (c.args.served.now + 1)) → X types)
+    → (c.serve_item.new.host ≡ c.next_item.new.host → (types : Told) → X types) → WithNext c.args.store.now.bounds c.args.steps (old g c) X
+by_told g c told X by idle = by_sum c.serve_item.ensures.told
+  where
+    by_sum : HasLine g c ⊎ (IsErrOf c.serve_item.result item.Memory × NothingDone c.args.store.now c.serve_item.new.store c.next_item.new.self c.serve_item.new.reader c.next_item.new.host c.serve_item.new.host)
+        → WithNext c.args.store.now.bounds c.args.steps (old g c) X
+    by_sum (inl has) = by_line (line_there g c told has) (λ types are. by types (line_here g c types told are))
+    by_sum (inr none) = by_any (idle none.1.host)
+
+serving : (g : Over) (c : After-serve_item g) (types : Told) → IsTypeLineOf c.args.store.now.kept c.in-Ok-Some.item (types (c.args.served.now + 1)) → g.H.Host.tells_image → g.H.Host.tells_said → g.H.Host.tells_input
+    → Leaves g.H.Host.clock g.H.Host.stopped c.args.host.now c.next_item.new.host (IsSessionPoint (old g c).work (session_at types c.args.store.now.bounds c.args.steps (old g c)) (old g c).said)
+    → IsQuiet g.H.Host.clock g.H.Host.stopped c.next_item.new.host (g.H.Host.now c.next_item.new.host).image
+    → Leaves g.H.Host.clock g.H.Host.stopped c.args.host.now c.serve_item.new.host (IsSessionPoint (old g c).work (session_at types c.args.store.now.bounds c.args.steps (old g c)) (old g c).said)
+serving g c types line told told_said told_input read quiet =
+    item_stops types c.args.store.now.bounds c.args.steps (old g c) (mid g c) c.in-Ok-Some.item (first_of g c told_input) (taken g c told_input).were_read.ends (next_number c.args.served.now) refl c.next_item.ensures.reads_on.rest.said
+    g.H.Host.clock g.H.Host.stopped c.next_item.new.host c.serve_item.new.host c.args.host.now read (c.serve_item.ensures.stops (types (c.args.served.now + 1)) line told told_said told_input quiet)
+
+asks_serving : (g : Over) (c : After-serve_item g) (types : Told) → IsTypeLineOf c.args.store.now.kept c.in-Ok-Some.item (types (c.args.served.now + 1)) → Asked (AsksInput types c.args.store.now.bounds c.args.steps (old g c)) (g.H.Host.now c.args.host.now).asked (g.H.Host.now c.next_item.new.host).asked → g.H.Host.tells_said → g.H.Host.tells_input
+    → Asked (AsksInput types c.args.store.now.bounds c.args.steps (old g c)) (g.H.Host.now c.args.host.now).asked (g.H.Host.now c.serve_item.new.host).asked
+asks_serving g c types line so_far told_said told =
+    asks_inside types c.args.store.now.bounds c.args.steps (old g c) (mid g c) c.in-Ok-Some.item (taken g c told) (next_number c.args.served.now) refl c.next_item.ensures.reads_on.rises (c.next_item.ensures.reads_on.total told)
     (g.H.Host.now c.args.host.now).asked (g.H.Host.now c.next_item.new.host).asked (g.H.Host.now c.serve_item.new.host).asked c.next_item.ensures.reads_on.rest.said
-    so_far c.serve_item.ensures.reads.ended_asks ((c.serve_item.ensures.asked check exact) told_said told)
+    so_far c.serve_item.ensures.reads.ended_asks (c.serve_item.ensures.asked (types (c.args.served.now + 1)) line told_said told)
 
 rises_serving : (g : Over) (c : After-serve_item g) → g.H.Host.tells_said
     → AskedRising (next_ask (old g c).reading.taken (old g c).reading.ended) (next_ask (new g c).reading.taken (new g c).reading.ended) (g.H.Host.now c.args.host.now).asked (g.H.Host.now c.serve_item.new.host).asked
@@ -88,36 +131,43 @@ rises_serving g c told =
     (g.H.Host.now c.args.host.now).asked (g.H.Host.now c.next_item.new.host).asked (g.H.Host.now c.serve_item.new.host).asked (c.next_item.ensures.reads_on.asks_rise told) (c.serve_item.ensures.reads.asks_rise told)
 
 pub returns-in-Ok-None-clause-stops : goal.returns-in-Ok-None-clause-stops
-returns-in-Ok-None-clause-stops g c check exact told told_said told_input quiet = reading g (goal.at.returns-in-Ok-None-clause-stops g c).After-next_item check exact told quiet
+returns-in-Ok-None-clause-stops g c told told_said told_input quiet = by_any (λ types. reading g (goal.at.returns-in-Ok-None-clause-stops g c).After-next_item types told quiet)
 
 pub returns-in-Err-clause-stops : goal.returns-in-Err-clause-stops
-returns-in-Err-clause-stops g c check exact told told_said told_input quiet = reading g (goal.at.returns-in-Err-clause-stops g c).After-next_item check exact told quiet
+returns-in-Err-clause-stops g c told told_said told_input quiet = by_any (λ types. reading g (goal.at.returns-in-Err-clause-stops g c).After-next_item types told quiet)
 
 pub returns-in-Ok-clause-stops : goal.returns-in-Ok-clause-stops
-returns-in-Ok-clause-stops g c check exact told told_said told_input quiet =
+returns-in-Ok-clause-stops g c told told_said told_input quiet =
     let at = goal.at.returns-in-Ok-clause-stops g c in
-    serving g at.After-serve_item check exact told told_said told_input (reading g at.After-next_item check exact told quiet) (quiet_still g at.After-next_item quiet)
+    by_line (line_there g at.After-serve_item told_input (answered_line _ _ c.in-Ok.done c.in-Ok.ensures.told)) (λ types are.
+    serving g at.After-serve_item types (line_here g at.After-serve_item types told_input are) told told_said told_input (reading g at.After-next_item types told quiet) (quiet_still g at.After-next_item quiet))
 
 pub returns-clause-stops : goal.returns-clause-stops
-returns-clause-stops g c check exact told told_said told_input quiet =
+returns-clause-stops g c told told_said told_input quiet =
     let at = goal.at.returns-clause-stops g c in
-    serving g at.After-serve_item check exact told told_said told_input (reading g at.After-next_item check exact told quiet) (quiet_still g at.After-next_item quiet)
+    by_told g at.After-serve_item told_input (λ types. Leaves g.H.Host.clock g.H.Host.stopped c.args.host.now c.serve_item.new.host (IsSessionPoint (old g at.After-serve_item).work (session_at types c.args.store.now.bounds c.args.steps (old g at.After-serve_item)) (old g at.After-serve_item).said))
+    (λ types line. serving g at.After-serve_item types line told told_said told_input (reading g at.After-next_item types told quiet) (quiet_still g at.After-next_item quiet))
+    (λ same types. subst (λ h. Leaves g.H.Host.clock g.H.Host.stopped c.args.host.now h (IsSessionPoint (old g at.After-serve_item).work (session_at types c.args.store.now.bounds c.args.steps (old g at.After-serve_item)) (old g at.After-serve_item).said))
+    (sym same) (reading g at.After-next_item types told quiet))
 
 pub returns-in-Ok-None-clause-asked : goal.returns-in-Ok-None-clause-asked
-returns-in-Ok-None-clause-asked g c check exact told_said told = asks_reading g (goal.at.returns-in-Ok-None-clause-asked g c).After-next_item check exact told_said told
+returns-in-Ok-None-clause-asked g c told_said told = by_any (λ types. asks_reading g (goal.at.returns-in-Ok-None-clause-asked g c).After-next_item types told_said told)
 
 pub returns-in-Err-clause-asked : goal.returns-in-Err-clause-asked
-returns-in-Err-clause-asked g c check exact told_said told = asks_reading g (goal.at.returns-in-Err-clause-asked g c).After-next_item check exact told_said told
+returns-in-Err-clause-asked g c told_said told = by_any (λ types. asks_reading g (goal.at.returns-in-Err-clause-asked g c).After-next_item types told_said told)
 
 pub returns-in-Ok-clause-asked : goal.returns-in-Ok-clause-asked
-returns-in-Ok-clause-asked g c check exact told_said told =
+returns-in-Ok-clause-asked g c told_said told =
     let at = goal.at.returns-in-Ok-clause-asked g c in
-    asks_serving g at.After-serve_item check exact (asks_reading g at.After-next_item check exact told_said told) told_said told
+    by_line (line_there g at.After-serve_item told (answered_line _ _ c.in-Ok.done c.in-Ok.ensures.told)) (λ types are.
+    asks_serving g at.After-serve_item types (line_here g at.After-serve_item types told are) (asks_reading g at.After-next_item types told_said told) told_said told)
 
 pub returns-clause-asked : goal.returns-clause-asked
-returns-clause-asked g c check exact told_said told =
+returns-clause-asked g c told_said told =
     let at = goal.at.returns-clause-asked g c in
-    asks_serving g at.After-serve_item check exact (asks_reading g at.After-next_item check exact told_said told) told_said told
+    by_told g at.After-serve_item told (λ types. Asked (AsksInput types c.args.store.now.bounds c.args.steps (old g at.After-serve_item)) (g.H.Host.now c.args.host.now).asked (g.H.Host.now c.serve_item.new.host).asked)
+    (λ types line. asks_serving g at.After-serve_item types line (asks_reading g at.After-next_item types told_said told) told_said told)
+    (λ same types. subst (λ h. Asked (AsksInput types c.args.store.now.bounds c.args.steps (old g at.After-serve_item)) (g.H.Host.now c.args.host.now).asked (g.H.Host.now h).asked) (sym same) (asks_reading g at.After-next_item types told_said told))
 
 pub returns-in-Ok-clause-asks_rise : goal.returns-in-Ok-clause-asks_rise
 returns-in-Ok-clause-asks_rise g c told = rises_serving g (goal.at.returns-in-Ok-clause-asks_rise g c).After-serve_item told
@@ -126,8 +176,8 @@ pub returns-clause-asks_rise : goal.returns-clause-asks_rise
 returns-clause-asks_rise g c told = rises_serving g (goal.at.returns-clause-asks_rise g c).After-serve_item told
 
 pub returns-in-Ok-None-clause-ends : goal.returns-in-Ok-None-clause-ends
-returns-in-Ok-None-clause-ends g c check exact told _ =
-    past_end check c.args.store.now.bounds c.args.steps g.H.Host.tells_said (place_at c.args.served.now (work_of c.args.store.now) c.args.reader.now (g.H.Host.now c.args.host.now))
+returns-in-Ok-None-clause-ends g c types are told _ =
+    past_end types c.args.store.now.bounds c.args.steps g.H.Host.tells_said (place_at c.args.served.now (work_of c.args.store.now) c.args.reader.now (g.H.Host.now c.args.host.now))
     (place_at c.args.served.now (work_of c.args.store.now) c.next_item.new.self (g.H.Host.now c.next_item.new.host)) ((rw c.in-Ok-None.field-0-is at c.in-Ok-None.ensures.item) told)
     (c.next_item.ensures.stands.at_end told) refl c.next_item.ensures.reads_on.rest.said
 
@@ -143,48 +193,49 @@ on true is = refl
 on false is = absurd (cc is)
 
 pub returns-in-Ok-clause-goes_on : goal.returns-in-Ok-clause-goes_on
-returns-in-Ok-clause-goes_on g c check exact told is =
+returns-in-Ok-clause-goes_on g c types are told is =
     let at = (goal.at.returns-in-Ok-clause-goes_on g c).After-serve_item in
-    past_item check c.args.store.now.bounds c.args.steps g.H.Host.tells_said (old g at) (mid g at) (new g at) c.in-Ok-Some.item (taken g at told) (next_number c.args.served.now) refl c.next_item.ensures.reads_on.rest.said
-    c.args.tally.now c.serve_item.new.tally c.in-Ok.done.quit (c.in-Ok.ensures.served check exact told) c.serve_item.ensures.reads.stays_ended refl (off c.in-Ok.done.quit is)
+    past_item types c.args.store.now.bounds c.args.steps g.H.Host.tells_said (old g at) (mid g at) (new g at) c.in-Ok-Some.item (taken g at told) (next_number c.args.served.now) refl c.next_item.ensures.reads_on.rest.said
+    c.args.tally.now c.serve_item.new.tally c.in-Ok.done.quit (c.in-Ok.ensures.served (types (c.args.served.now + 1)) (line_here g at types told are) told) c.serve_item.ensures.reads.stays_ended refl (off c.in-Ok.done.quit is) (line_of types c.args.store.now.bounds c.args.steps (old g at) c.in-Ok-Some.item (lines_left (mid g at)) (first_of g at told) are)
 
 pub returns-in-Ok-clause-ends : goal.returns-in-Ok-clause-ends
-returns-in-Ok-clause-ends g c check exact told is =
+returns-in-Ok-clause-ends g c types are told is =
     let at = (goal.at.returns-in-Ok-clause-ends g c).After-serve_item in
-    past_quit check c.args.store.now.bounds c.args.steps g.H.Host.tells_said (old g at) (mid g at) (new g at) c.in-Ok-Some.item (taken g at told) (next_number c.args.served.now) refl c.next_item.ensures.reads_on.rest.said
-    c.args.tally.now c.serve_item.new.tally c.in-Ok.done.quit (c.in-Ok.ensures.served check exact told) c.serve_item.ensures.reads.stays_ended (on c.in-Ok.done.quit is)
+    past_quit types c.args.store.now.bounds c.args.steps g.H.Host.tells_said (old g at) (mid g at) (new g at) c.in-Ok-Some.item (taken g at told) (next_number c.args.served.now) refl c.next_item.ensures.reads_on.rest.said
+    c.args.tally.now c.serve_item.new.tally c.in-Ok.done.quit (c.in-Ok.ensures.served (types (c.args.served.now + 1)) (line_here g at types told are) told) c.serve_item.ensures.reads.stays_ended (on c.in-Ok.done.quit is)
 
 pub returns-in-Ok-None-clause-tallied_whole : goal.returns-in-Ok-None-clause-tallied_whole
-returns-in-Ok-None-clause-tallied_whole g c check exact told _ =
+returns-in-Ok-None-clause-tallied_whole g c types are told _ =
     ap (λ s. counted_from c.args.tally.now (replies s))
-    (none_left check c.args.store.now.bounds c.args.steps (place_at c.args.served.now (work_of c.args.store.now) c.args.reader.now (g.H.Host.now c.args.host.now))
+    (none_left types c.args.store.now.bounds c.args.steps (place_at c.args.served.now (work_of c.args.store.now) c.args.reader.now (g.H.Host.now c.args.host.now))
     (place_at c.args.served.now (work_of c.args.store.now) c.next_item.new.self (g.H.Host.now c.next_item.new.host)) ((rw c.in-Ok-None.field-0-is at c.in-Ok-None.ensures.item) told))
 
 pub returns-in-Ok-clause-tallied : goal.returns-in-Ok-clause-tallied
-returns-in-Ok-clause-tallied g c check exact told is =
+returns-in-Ok-clause-tallied g c types are told is =
     let at = (goal.at.returns-in-Ok-clause-tallied g c).After-serve_item in
-    counts_on check c.args.store.now.bounds c.args.steps g.H.Host.tells_said (old g at) (mid g at) (new g at) c.in-Ok-Some.item (taken g at told) (next_number c.args.served.now) refl c.next_item.ensures.reads_on.rest.said
-    c.args.tally.now c.serve_item.new.tally c.in-Ok.done.quit (c.in-Ok.ensures.served check exact told) c.serve_item.ensures.reads.stays_ended refl (off c.in-Ok.done.quit is)
+    counts_on types c.args.store.now.bounds c.args.steps g.H.Host.tells_said (old g at) (mid g at) (new g at) c.in-Ok-Some.item (taken g at told) (next_number c.args.served.now) refl c.next_item.ensures.reads_on.rest.said
+    c.args.tally.now c.serve_item.new.tally c.in-Ok.done.quit (c.in-Ok.ensures.served (types (c.args.served.now + 1)) (line_here g at types told are) told) c.serve_item.ensures.reads.stays_ended refl (off c.in-Ok.done.quit is)
 
 pub returns-in-Ok-clause-tallied_whole : goal.returns-in-Ok-clause-tallied_whole
-returns-in-Ok-clause-tallied_whole g c check exact told is =
+returns-in-Ok-clause-tallied_whole g c types are told is =
     let at = (goal.at.returns-in-Ok-clause-tallied_whole g c).After-serve_item in
-    counts_last check c.args.store.now.bounds c.args.steps g.H.Host.tells_said (old g at) (mid g at) (new g at) c.in-Ok-Some.item (taken g at told) (next_number c.args.served.now) refl c.next_item.ensures.reads_on.rest.said
-    c.args.tally.now c.serve_item.new.tally c.in-Ok.done.quit (c.in-Ok.ensures.served check exact told) c.serve_item.ensures.reads.stays_ended (on c.in-Ok.done.quit is)
+    counts_last types c.args.store.now.bounds c.args.steps g.H.Host.tells_said (old g at) (mid g at) (new g at) c.in-Ok-Some.item (taken g at told) (next_number c.args.served.now) refl c.next_item.ensures.reads_on.rest.said
+    c.args.tally.now c.serve_item.new.tally c.in-Ok.done.quit (c.in-Ok.ensures.served (types (c.args.served.now + 1)) (line_here g at types told are) told) c.serve_item.ensures.reads.stays_ended (on c.in-Ok.done.quit is)
 
 pub returns-in-Err-clause-wants : goal.returns-in-Err-clause-wants
-returns-in-Err-clause-wants g c check exact told stops =
-    wants_item check c.args.store.now.bounds c.args.steps (here g (goal.at.returns-in-Err-clause-wants g c).After-next_item) (g.H.Host.now c.next_item.new.host).taken (search rules)
+returns-in-Err-clause-wants g c told stops =
+    by_any (λ types. wants_item types c.args.store.now.bounds c.args.steps (here g (goal.at.returns-in-Err-clause-wants g c).After-next_item) (g.H.Host.now c.next_item.new.host).taken (search rules))
 
 pub returns-clause-wants : goal.returns-clause-wants
-returns-clause-wants g c check exact told stops =
+returns-clause-wants g c told stops =
     let at = (goal.at.returns-clause-wants g c).After-serve_item in
     let reads : IsErrOf c.serve_item.result item.Input ⊎ IsErrOf c.serve_item.result item.Long =
     stopped_either c.serve_item.result c.in-Err-serve_item.stop c.stop_of_item.result c.in-Err-serve_item.is item.Input item.Long session.Input session.Long c.stop_of_item.ensures.input c.stop_of_item.ensures.long stops in
     let going = false_from_ne_true c.next_item.new.self.ended (λ is. c.serve_item.ensures.ended_ends is reads) in
-    subst (λ n. WantsInput check c.args.store.now.bounds c.args.steps (old g at) n) (sym c.serve_item.ensures.reads.stands.counts)
-    (wants_line check c.args.store.now.bounds c.args.steps (old g at) (mid g at) c.in-Ok-Some.item (taken g at told) (next_number c.args.served.now) refl c.next_item.ensures.reads_on.rises (c.next_item.ensures.reads_on.total told)
-    going c.serve_item.new.reader.taken ((c.serve_item.ensures.wants check exact) told reads))
+    by_line (line_there g at told (failed_line _ _ _ (not_starved c.serve_item.result reads) c.serve_item.ensures.told)) (λ types are.
+    subst (λ n. WantsInput types c.args.store.now.bounds c.args.steps (old g at) n) (sym c.serve_item.ensures.reads.stands.counts)
+    (wants_line types c.args.store.now.bounds c.args.steps (old g at) (mid g at) c.in-Ok-Some.item (taken g at told) (next_number c.args.served.now) refl c.next_item.ensures.reads_on.rises (c.next_item.ensures.reads_on.total told)
+    going c.serve_item.new.reader.taken (c.serve_item.ensures.wants (types (c.args.served.now + 1)) (line_here g at types told are) told reads)))
 
 pub returns-clause-ended_ends : goal.returns-clause-ended_ends
 returns-clause-ended_ends g c is stops =
@@ -202,20 +253,32 @@ returns-clause-idle g c told quiet stops i s stop =
     c.stop_of_item.ensures.memory c.stop_of_item.ensures.input c.stop_of_item.ensures.long stops) i s stop)
 
 pub returns-clause-broken : goal.returns-clause-broken
-returns-clause-broken g c check exact told told_said told_input quiet stops =
+returns-clause-broken g c told told_said told_input quiet stops =
     let at = goal.at.returns-clause-broken g c in
     let fault : IsErrOf c.serve_item.result item.StoreFault = stopped_by c.serve_item.result c.in-Err-serve_item.stop c.stop_of_item.result c.in-Err-serve_item.is item.StoreFault session.StoreFault c.stop_of_item.ensures.store_fault stops in
-    item_broken check c.args.store.now.bounds c.args.steps (old g at.After-serve_item) (mid g at.After-serve_item) c.in-Ok-Some.item (first_of g at.After-serve_item told_input) (taken g at.After-serve_item told_input).were_read.ends
+    by_line (line_there g at.After-serve_item told_input (failed_line _ _ _ (λ starved. absurd (cc (fault, starved))) c.serve_item.ensures.told)) (λ types are.
+    item_broken types c.args.store.now.bounds c.args.steps (old g at.After-serve_item) (mid g at.After-serve_item) c.in-Ok-Some.item (first_of g at.After-serve_item told_input) (taken g at.After-serve_item told_input).were_read.ends
     (next_number c.args.served.now) refl c.next_item.ensures.reads_on.rest.said g.H.Host.clock g.H.Host.stopped c.next_item.new.host c.serve_item.new.host g.met.H.Host.since
-    (still_opens g at.After-next_item told quiet) ((c.serve_item.ensures.stops check exact) told told_said told_input (quiet_still g at.After-next_item quiet))
-    (g.H.Host.now c.serve_item.new.host).said (c.serve_item.ensures.unsaid (inr (inr (inl fault))))
+    (still_opens g at.After-next_item told quiet) (c.serve_item.ensures.stops (types (c.args.served.now + 1)) (line_here g at.After-serve_item types told_input are) told told_said told_input (quiet_still g at.After-next_item quiet))
+    (g.H.Host.now c.serve_item.new.host).said (c.serve_item.ensures.unsaid (inr (inr (inl fault)))))
 
 pub returns-clause-cut_short : goal.returns-clause-cut_short
-returns-clause-cut_short g c check exact told told_said told_input quiet stops =
+returns-clause-cut_short g c told told_said told_input quiet stops =
     let at = goal.at.returns-clause-cut_short g c in
     let sink : IsErrOf c.serve_item.result item.SinkFault = stopped_by c.serve_item.result c.in-Err-serve_item.stop c.stop_of_item.result c.in-Err-serve_item.is item.SinkFault session.SinkFault c.stop_of_item.ensures.sink_fault stops in
-    item_cut check c.args.store.now.bounds c.args.steps (old g at.After-serve_item) (mid g at.After-serve_item) c.in-Ok-Some.item (first_of g at.After-serve_item told_input) (taken g at.After-serve_item told_input).were_read.ends
+    by_line (line_there g at.After-serve_item told_input (failed_line _ _ _ (λ starved. absurd (cc (sink, starved))) c.serve_item.ensures.told)) (λ types are.
+    item_cut types c.args.store.now.bounds c.args.steps (old g at.After-serve_item) (mid g at.After-serve_item) c.in-Ok-Some.item (first_of g at.After-serve_item told_input) (taken g at.After-serve_item told_input).were_read.ends
     (next_number c.args.served.now) refl c.next_item.ensures.reads_on.rest.said (new g at.After-serve_item) (g.H.Host.stopped c.serve_item.new.host (g.H.Host.clock c.serve_item.new.host))
-    ((c.serve_item.ensures.cut check exact) told_said told_input sink)
+    (c.serve_item.ensures.cut (types (c.args.served.now + 1)) (line_here g at.After-serve_item types told_input are) told_said told_input sink)
     (quiet_opens g.H.Host.clock g.H.Host.stopped c.serve_item.new.host (g.H.Host.now c.serve_item.new.host).image (work_of c.serve_item.new.store) (c.serve_item.ensures.holds told (inr sink))
-    (c.serve_item.ensures.quiet told (quiet_still g at.After-next_item quiet) (inr sink)))
+    (c.serve_item.ensures.quiet told (quiet_still g at.After-next_item quiet) (inr sink))))
+
+pub returns-in-Ok-None-clause-there : goal.returns-in-Ok-None-clause-there
+returns-in-Ok-None-clause-there g c told = record {
+  types = λ _. None;
+  are_told = none_told (λ _. None) c.args.store.now.bounds c.args.steps (here g (goal.at.returns-in-Ok-None-clause-there g c).After-next_item)
+      (none_next c.args.reader.now c.next_item.new.self (g.H.Host.now c.args.host.now).left (g.H.Host.now c.next_item.new.host).left ((rw c.in-Ok-None.field-0-is at c.in-Ok-None.ensures.item) told));
+}
+
+pub returns-in-Ok-clause-there : goal.returns-in-Ok-clause-there
+returns-in-Ok-clause-there g c told = line_there g (goal.at.returns-in-Ok-clause-there g c).After-serve_item told (answered_line _ _ c.in-Ok.done c.in-Ok.ensures.told)

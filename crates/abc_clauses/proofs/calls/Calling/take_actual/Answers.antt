@@ -1,7 +1,5 @@
-use Rattle.std.proofs.Common.{List}
 use Rattle.std.proofs.lemmas.List.{take_rest}
 use Rattle.std.proofs.lemmas.Result.{err_from_is_err_and}
-use Rattle.abc_expressions.specs.declared.lexemes.Lexeme.{Lexeme}
 use Rattle.abc_clauses.specs.inner.Views.{seen_call}
 use Rattle.abc_clauses.proofs.CallWords.{took, took_none}
 use Rattle.abc_clauses.proofs.calls.Calling.take_actual.Goals as goal

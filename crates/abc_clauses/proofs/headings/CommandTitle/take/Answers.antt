@@ -1,4 +1,4 @@
-use Rattle.std.proofs.Common.{◌≡◌, [], ◌∷◌, Some, ap, sym, ◌∙◌, refl}
+use Rattle.std.proofs.Common.{[], ◌∷◌, Some, ap, sym, ◌∙◌}
 use Rattle.std.proofs.lemmas.List.{append-nil}
 use Rattle.abc_tree.specs.declared.templates.Word.TheVariants as w
 use Rattle.abc_clauses.specs.Readings.{place_of}

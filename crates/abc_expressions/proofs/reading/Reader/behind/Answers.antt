@@ -1,5 +1,5 @@
 use Rattle.std.proofs.Common.{refl, ap, sym, ◌∙◌, ◌∷◌}
-use Rattle.abc_expressions.specs.inner.Machine.{settled, settles}
+use Rattle.abc_expressions.specs.inner.Machine.{after_part, go_on_after}
 use Rattle.abc_expressions.proofs.ReaderSteps.{steps_along, goes, at_none, at_between, at_before, at_inside, opens_same}
 use Rattle.abc_expressions.proofs.reading.Reader.behind.Goals as goal
 
@@ -33,5 +33,5 @@ pub returns-in-Some-Inside-clause-steps : goal.returns-in-Some-Inside-clause-ste
 returns-in-Some-Inside-clause-steps c =
     let top = rw c.in-Some-Inside.field-0-is at c.in-Some-Inside.ensures in
     steps_along _ _ _ _ _ _ (λ next. c.loop-self.invariant.2 next ∙ at_inside _ _ _ _ _ _ _ _ _ c.loop-self.invariant.3 (sym c.goes_on.ensures ∙ c.if-goes_on.false) _ _ _ top next
-    ∙ ap (λ s. settles (settled c.in-Some-Inside.group s c.loop-self.a) next c.loop-self.self.left c.pop.new.self c.in-Some-Inside.outer (c.args.token.now ∷ c.args.rest.now)) (sym c.sign_of.ensures))
+    ∙ ap (λ s. go_on_after (after_part c.in-Some-Inside.group s c.loop-self.a) next c.loop-self.self.left c.pop.new.self c.in-Some-Inside.outer (c.args.token.now ∷ c.args.rest.now)) (sym c.sign_of.ensures))
     (c.reduce.ensures.steps (c.args.token.now ∷ c.args.rest.now))

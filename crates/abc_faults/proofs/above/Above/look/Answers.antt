@@ -1,4 +1,4 @@
-use Rattle.std.proofs.Common.{◌≡◌, ◌∷◌, ap, ◌∙◌, length, arith}
+use Rattle.std.proofs.Common.{ap, ◌∙◌, length, arith}
 use Rattle.abc_faults.specs.declared.above.Above.{Above}
 use Rattle.abc_faults.specs.Facts.{edges}
 use Rattle.abc_faults.proofs.Judgements.{edges_length, above_is, sight_is}

@@ -53,8 +53,8 @@ returns-in_err-check_sizes-clause-sizes c =
     (omega (arith, length-map es as_pair)) (omega (arith, high, c.height.ensures.height, c.height-2.ensures.height)) (omega (arith, heavy, c.weight.ensures.weight, c.weight-2.ensures.weight))
     ∙ ap (λ ps. size_fault (table (pairs (with_pair c.args.k c.args.a ps)))) same) ∙ c.in_err-check_sizes.ensures)
 
-pub insert-requires-clause-place : goal.insert-requires-clause-place
-insert-requires-clause-place c =
+pub insert-requires : goal.insert-requires
+insert-requires c =
     let es = c.in-Table.entries in
     let same = keys_of_are es c.args.self.now (ap node_tree (sym c.in-Table.is) ∙ c.self.view_is) in
     let P : List Tree → Type 0 = λ ks. c.args.place ≤ length ks in

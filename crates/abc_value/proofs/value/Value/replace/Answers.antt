@@ -63,8 +63,8 @@ returns-in_err-check_sizes-clause-sizes c =
     let count : c.len.result ≡ length es = omega (arith, c.len.ensures) in
     rw (p.1, p.2) (λ _. sym (r.fault c.len.result c.height_with-height.result (c.self.inside.weight + c.weight-heavy.result - c.weight-light.result) count tall load) ∙ c.in_err-check_sizes.ensures)
 
-pub replace-requires-clause-place : goal.replace-requires-clause-place
-replace-requires-clause-place c =
+pub replace-requires : goal.replace-requires
+replace-requires c =
     let es = c.in-Table.entries in
     let same = keys_of_are es c.args.self.now (ap node_tree (sym c.in-Table.is) ∙ c.self.view_is) in
     let P : List Tree → Type 0 = λ ks. c.args.place < length ks in

@@ -1,0 +1,5 @@
+use Rattle.std.proofs.Common.{length, ap, ◌∙◌}
+use Rattle.abc_value.proofs.elements.Entries.len.Goals as goal
+
+pub returns : goal.returns
+returns c = c.len.ensures ∙ ap length c.self.view_is
