@@ -1,0 +1,2 @@
+-- What the type check promises of runs.
+pub mod Checked
