@@ -1,2 +1,0 @@
--- What the type check promises of runs.
-pub mod Checked
