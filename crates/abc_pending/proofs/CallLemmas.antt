@@ -25,9 +25,9 @@ use Rattle.abc_pending.specs.declared.pending.Next.{Next}
 use Rattle.abc_pending.specs.Pending.{for_flow, unit_end, refinement_end, command_end, refine}
 use Rattle.abc_pending.specs.Leads.{as_val, as_truth, as_flow, call_of, entered_of, refined_of, doing, left_with, refound, restored, resume, resume_flow}
 use Rattle.abc_pending.specs.Views.{Begins, next_weight}
-use Rattle.abc_pending.specs.Weights.{IsWithin, most_growth, suite_size}
+use Rattle.abc_pending.specs.Weights.{Falls, IsWithin, most_growth, suite_size}
 use Rattle.abc_pending.proofs.Calling.{call_begins, command_begins}
-use Rattle.abc_pending.proofs.Falling.{Lessens, if_ok, body_within, scope_within, body_falls, refinement_within, named_refinement_within, refinement_falls}
+use Rattle.abc_pending.proofs.Falling.{if_ok, body_within, scope_within, body_falls, refinement_within, named_refinement_within, refinement_falls}
 
 -- the scope of a unit that was found
 pub unit_within : (us : List Routine) (t : Template) (u : Routine) (scope : Scope) (r : Result Next Halt) → Some u ≡ unit_of t us → IfOk r (λ _. scope ≡ in_unit u) → IfOk r (λ _. IsWithin us scope)
@@ -38,11 +38,11 @@ pub unit_falls : (us : List Routine) (t : Template) (u : Routine) (l k : ℕ) (r
 unit_falls us t u l k r found = if_ok (λ next. (l + 1 ≡ k) × (next_weight next ≡ 2 + suite_size u.body)) (λ next. (l + 1 ≡ k) × (next_weight next < most_growth us)) r (λ next p. body_falls us (suite_size u.body) l k (next_weight next) (body_within us t u found) p)
 
 -- a refinement that was found
-pub command_refinement_falls : (us : List Routine) (scope : Scope) (name : List ℕ) (q : Refinement) (l k : ℕ) (r : Result Next Halt) → Some q ≡ refinement_named scope name → IsWithin us scope → IfOk r (λ next. (l + 1 ≡ k) × (next_weight next ≡ 2 + suite_size q.suite)) → IfOk r (λ next. Lessens us l (next_weight next) k 1)
-command_refinement_falls us scope name q l k r found within = if_ok (λ next. (l + 1 ≡ k) × (next_weight next ≡ 2 + suite_size q.suite)) (λ next. Lessens us l (next_weight next) k 1) r (λ next p. refinement_falls us scope (suite_size q.suite) l k (next_weight next) within (refinement_within scope name q found) p)
+pub command_refinement_falls : (us : List Routine) (scope : Scope) (name : List ℕ) (q : Refinement) (l k : ℕ) (r : Result Next Halt) → Some q ≡ refinement_named scope name → IsWithin us scope → IfOk r (λ next. (l + 1 ≡ k) × (next_weight next ≡ 2 + suite_size q.suite)) → IfOk r (λ next. Falls us l (next_weight next) k 1)
+command_refinement_falls us scope name q l k r found within = if_ok (λ next. (l + 1 ≡ k) × (next_weight next ≡ 2 + suite_size q.suite)) (λ next. Falls us l (next_weight next) k 1) r (λ next p. refinement_falls us scope (suite_size q.suite) l k (next_weight next) within (refinement_within scope name q found) p)
 
-pub name_refinement_falls : (us : List Routine) (scope : Scope) (i : ℕ) (q : Refinement) (l k : ℕ) (r : Result Next Halt) → Some q ≡ refinement_at scope i → IsWithin us scope → IfOk r (λ next. (l + 1 ≡ k) × (next_weight next ≡ 2 + suite_size q.suite)) → IfOk r (λ next. Lessens us l (next_weight next) k 1)
-name_refinement_falls us scope i q l k r found within = if_ok (λ next. (l + 1 ≡ k) × (next_weight next ≡ 2 + suite_size q.suite)) (λ next. Lessens us l (next_weight next) k 1) r (λ next p. refinement_falls us scope (suite_size q.suite) l k (next_weight next) within (named_refinement_within scope i q found) p)
+pub name_refinement_falls : (us : List Routine) (scope : Scope) (i : ℕ) (q : Refinement) (l k : ℕ) (r : Result Next Halt) → Some q ≡ refinement_at scope i → IsWithin us scope → IfOk r (λ next. (l + 1 ≡ k) × (next_weight next ≡ 2 + suite_size q.suite)) → IfOk r (λ next. Falls us l (next_weight next) k 1)
+name_refinement_falls us scope i q l k r found within = if_ok (λ next. (l + 1 ≡ k) × (next_weight next ≡ 2 + suite_size q.suite)) (λ next. Falls us l (next_weight next) k 1) r (λ next p. refinement_falls us scope (suite_size q.suite) l k (next_weight next) within (named_refinement_within scope i q found) p)
 
 -- a name that is a refinement
 pub refined : (us : List Routine) (scope : Scope) (p : Place) (wanted : Wanted) (i : ℕ) (q : Refinement) (s : State) → Some q ≡ refinement_at scope i → refined_of (meaning us p.levels) (at scope p.line) wanted q s ≡ doing us (meaning us p.levels) (at scope p.line) (refine wanted i) s

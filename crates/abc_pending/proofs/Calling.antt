@@ -4,7 +4,7 @@ use Rattle.abc_tree.specs.RegularItems.{formal_names}
 use Rattle.abc_tree.specs.declared.commands.Unit.{Unit as Routine}
 use Rattle.abc_value.specs.Tree.{Tree, trees}
 use Rattle.abc_frames.specs.Maps.{Targets, Frame as Names}
-use Rattle.abc_meaning.specs.State.{State, Formal, Got, gives, stops, wrong, after, Flow}
+use Rattle.abc_meaning.specs.State.{State, Formal, Got, gives, stops, after, Flow}
 use Rattle.abc_meaning.specs.Here.{Here, Scope, in_unit, spend}
 use Rattle.abc_meaning.specs.Deeper.{Deeper, Actual}
 use Rattle.abc_meaning.specs.Bindings.{Bindings, bindings, at_fields}
@@ -24,10 +24,6 @@ use Rattle.abc_pending.proofs.Acting.{goes_on_after}
 entered_over : (deep : Deeper) (here : Here) (u : Routine) (o : Option Bindings) (names : Names) (s : State) → option_map (λ bs. with_bindings bs []) o ≡ Some names → entered deep here u o s ≡ body_over deep here u names s
 entered_over deep here u None names s e = cc
 entered_over deep here u (Some bs) names s e = cc
-
-entered_not : (deep : Deeper) (here : Here) (u : Routine) (o : Option Bindings) (s : State) → option_map (λ bs. with_bindings bs []) o ≡ None → entered deep here u o s ≡ stops here.line wrong s
-entered_not deep here u None s e = refl
-entered_not deep here u (Some bs) s e = cc
 
 -- what the end of a unit makes of its body
 value_ends : (units : List Routine) (p : Place) (outer : Scope) (targets : Targets) (names : Names) (formals : List Formal) (g : Got Flow)
@@ -53,17 +49,6 @@ call_begins units p outer Truth u vs s t names e k =
     ∙ ap (λ g. as_truth (after g (reported (at outer p.line)))) (entered_over (meaning units p.levels) (at outer p.line) u _ names t k)
     ∙ truth_ends units p outer t.targets t.names t.formals (suite (meaning units p.levels) (at (in_unit u) p.line) u.body (entering names t))
 
--- formals that don't match
-pub call_misfits : (units : List Routine) (p : Place) (outer : Scope) (wanted : Wanted) (u : Routine) (vs : List Tree) (s t : State)
-    → spend (at outer p.line) s ≡ gives tt t → formal_frame u vs ≡ None
-    → call_of units (meaning units p.levels) (at outer p.line) wanted (Some u) vs s ≡ stops p.line wrong t
-call_misfits units p outer Value u vs s t e k =
-    ap (λ g. as_val (after (after g (λ _. entered (meaning units p.levels) (at outer p.line) u (at_fields (map bindings u.formals) (trees vs)))) (returned (at outer p.line)))) e
-    ∙ ap (λ g. as_val (after g (returned (at outer p.line)))) (entered_not (meaning units p.levels) (at outer p.line) u _ t k)
-call_misfits units p outer Truth u vs s t e k =
-    ap (λ g. as_truth (after (after g (λ _. entered (meaning units p.levels) (at outer p.line) u (at_fields (map bindings u.formals) (trees vs)))) (reported (at outer p.line)))) e
-    ∙ ap (λ g. as_truth (after g (reported (at outer p.line)))) (entered_not (meaning units p.levels) (at outer p.line) u _ t k)
-
 -- what the end of a command unit makes of its body
 command_ends : (units : List Routine) (p : Place) (outer : Scope) (before : State) (g : Got Flow)
     → as_flow (after g (leaving (at outer p.line) before)) ≡ after (as_flow g) (resume units outer (for_flow p (command_end before.names before.formals outer)))
@@ -78,10 +63,3 @@ command_begins units p outer u found s t e k h =
     ap (λ g. as_flow (after g (λ _. body_with (meaning units p.levels) (at outer p.line) u (entry (formal_names u) found)))) k
     ∙ ap (λ o. as_flow (body_with (meaning units p.levels) (at outer p.line) u o t)) h
     ∙ command_ends units p outer t (suite (meaning units p.levels) (at (in_unit u) p.line) u.body (record t { names = e.names; formals = e.formals }))
-
-pub command_misfits : (units : List Routine) (p : Place) (outer : Scope) (u : Routine) (found : List Actual) (s t : State)
-    → spend (at outer p.line) s ≡ gives tt t → entry (formal_names u) found ≡ None
-    → entered_of (meaning units p.levels) (at outer p.line) (Some u) found s ≡ stops p.line wrong t
-command_misfits units p outer u found s t k h =
-    ap (λ g. as_flow (after g (λ _. body_with (meaning units p.levels) (at outer p.line) u (entry (formal_names u) found)))) k
-    ∙ ap (λ o. as_flow (body_with (meaning units p.levels) (at outer p.line) u o t)) h

@@ -1,5 +1,5 @@
 -- How the pending work falls.
-use Rattle.std.proofs.Common.{◌≡◌, ◌<◌, ◌≤◌, ◌⊎◌, ℕ, ◌+◌, ◌*◌, Bool, true, false, List, [], ◌∷◌, Option, Some, None, Result, Ok, Err, IfOk, if◌then◌else◌, inl, inr, refl, sym, ap, arith}
+use Rattle.std.proofs.Common.{◌≡◌, ◌<◌, ◌≤◌, ℕ, ◌+◌, ◌*◌, Bool, true, false, List, [], ◌∷◌, Option, Some, None, Result, Ok, Err, IfOk, if◌then◌else◌, inl, inr, refl, sym, ap, arith}
 use Rattle.std.specs.List.{sum_by, slice_get}
 use Rattle.std.specs.Prelude.{option_and_then}
 use Rattle.std.specs.Ordering.{match_ordering}
@@ -16,14 +16,10 @@ use Rattle.abc_tree.specs.declared.templates.Template.{Template}
 use Rattle.abc_tree.specs.declared.commands.Refinement.{Refinement}
 use Rattle.abc_tree.specs.declared.commands.Unit.{Unit as Routine}
 use Rattle.abc_meaning.specs.Here.{Scope, in_command, in_unit, names_in, refinement_at, refinement_named}
-use Rattle.abc_pending.specs.Weights.{IsWithin, most_growth, refinements_size, scope_size, suite_size, unit_size, units_size}
-
--- The work weighs a where so many steps are left, and weighed b before: it falls, or a step is spent.
-abbrev pub Lessens : List Routine → ℕ → ℕ → ℕ → ℕ → Type 0
-Lessens us l a k b = ((l ≡ k) × (a < b)) ⊎ ((l + 1 ≡ k) × (a < most_growth us * b))
+use Rattle.abc_pending.specs.Weights.{Falls, IsWithin, most_growth, refinements_size, scope_size, suite_size, unit_size, units_size}
 
 -- no step was spent
-pub unspent : (us : List Routine) (l a b k : ℕ) → l ≡ k → a < b → Lessens us l a k b
+pub unspent : (us : List Routine) (l a b k : ℕ) → l ≡ k → a < b → Falls us l a k b
 unspent us l a b k e h = inl (e, h)
 
 -- a step was spent, and the work is not four times as heavy
@@ -32,14 +28,14 @@ four_times u a b h =
     let e = add-mul 4 u b in
     omega arith
 
-pub spent_four : (us : List Routine) (l a b k : ℕ) → l + 1 ≡ k → a < 4 * b → Lessens us l a k b
+pub spent_four : (us : List Routine) (l a b k : ℕ) → l + 1 ≡ k → a < 4 * b → Falls us l a k b
 spent_four us l a b k e h = inr (e, four_times (units_size us) a b h)
 
-pub spent_least : (us : List Routine) (l a b k : ℕ) → l + 1 ≡ k → a < b → Lessens us l a k b
+pub spent_least : (us : List Routine) (l a b k : ℕ) → l + 1 ≡ k → a < b → Falls us l a k b
 spent_least us l a b k e h = inr (e, four_times (units_size us) a b (omega arith))
 
 -- or it is no heavier than all units
-pub spent_most : (us : List Routine) (l a k : ℕ) → l + 1 ≡ k → a < most_growth us → Lessens us l a k 1
+pub spent_most : (us : List Routine) (l a k : ℕ) → l + 1 ≡ k → a < most_growth us → Falls us l a k 1
 spent_most us l a k e h =
     let m = mul-one (most_growth us) in
     inr (e, omega arith)
@@ -107,7 +103,7 @@ body_falls us n l k a h p =
     let e = p.1 in
     (p.0, omega arith)
 
-pub refinement_falls : (us : List Routine) (scope : Scope) (n l k a : ℕ) → IsWithin us scope → n ≤ scope_size scope → (l + 1 ≡ k) × (a ≡ 2 + n) → Lessens us l a k 1
+pub refinement_falls : (us : List Routine) (scope : Scope) (n l k a : ℕ) → IsWithin us scope → n ≤ scope_size scope → (l + 1 ≡ k) × (a ≡ 2 + n) → Falls us l a k 1
 refinement_falls us scope n l k a w h p =
     let e = p.1 in
     spent_most us l a k p.0 (omega arith)

@@ -11,3 +11,4 @@ pub mod GoingOn
 pub mod Growing
 pub mod Reading
 pub mod Asking
+pub mod AtOnce

@@ -24,9 +24,9 @@ use Rattle.abc_pending.specs.declared.stopped.Stopped.{Stopped}
 use Rattle.abc_pending.specs.Steps.{Starts}
 use Rattle.abc_pending.specs.Leads.{as_flow, change_by, done}
 use Rattle.abc_pending.specs.Views.{next_weight}
-use Rattle.abc_pending.specs.Weights.{action_size, first_size}
+use Rattle.abc_pending.specs.Weights.{Falls, action_size, first_size}
 use Rattle.abc_pending.proofs.Acting.{goes_on_behind}
-use Rattle.abc_pending.proofs.Falling.{Lessens, spent_least}
+use Rattle.abc_pending.proofs.Falling.{spent_least}
 
 module _ (deep : Deeper) (here : Here) (a : Expr) where
   -- the value of the line is put where the address says
@@ -55,7 +55,7 @@ first_of_none (a ∷ others) e = cc
 
 -- a command was a step, and it is the first of its suite
 pub first_falls : {E : Type 0} (us : List Routine) (l k : ℕ) (body : List Action) (a : Action) (r : Result Next E) → first_size body ≡ action_size a
-    → IfOk r (λ next. (l + 1 ≡ k) × (next_weight next < action_size a)) → IfOk r (λ next. Lessens us l (next_weight next) k (first_size body))
+    → IfOk r (λ next. (l + 1 ≡ k) × (next_weight next < action_size a)) → IfOk r (λ next. Falls us l (next_weight next) k (first_size body))
 first_falls us l k body a (Ok next) e h =
     let w : next_weight next < first_size body = rw e h.1 in
     spent_least us l (next_weight next) (first_size body) k h.0 w

@@ -1,5 +1,5 @@
 -- The pending work that the code holds.
-use Rattle.std.specs.Prelude.{◌≡◌, ◌+◌, ℕ, Option, List, [], ◌∷◌, drop, map, option_map, Result, Ok, Err, Vec}
+use Rattle.std.specs.Prelude.{◌≡◌, ◌+◌, ℕ, Option, List, [], ◌∷◌, drop, map, option_map, Some, None, Result, Ok, Err, Vec}
 use Rattle.std.specs.List.{sum_by}
 use Rattle.abc_tree.specs.declared.commands.Action.{Action, out-Action}
 use Rattle.abc_tree.specs.declared.commands.Unit.{Unit as Routine}
@@ -8,8 +8,9 @@ use Rattle.abc_meaning.specs.State.{Address, Formal, State, Got, gives, after}
 use Rattle.abc_meaning.specs.Here.{Scope, line_in}
 use Rattle.abc_meaning.specs.Actuals.{Gathered}
 use Rattle.abc_meaning.specs.Deeper.{Actual}
+use Rattle.abc_value.specs.Tree.{Tree}
 use Rattle.abc_acts.specs.Views.{address_of, actual_of, flow_of, formal_of, held_of, filling_of, tabling_of, wording_of, scope_of}
-use Rattle.abc_acts.specs.Agrees.{Leads}
+use Rattle.abc_acts.specs.Agrees.{Halts, Leads}
 use Rattle.abc_acts.specs.declared.halt.Halt.{Halt}
 use Rattle.abc_acts.specs.declared.spots.Spot.{Spot}
 use Rattle.abc_acts.specs.declared.actuals.Actual.{Actual as HeldActual}
@@ -182,6 +183,12 @@ next_weight (Wait f w) = frame_weight (frame_of f) + job_weight (job_of w.1)
 -- What has begun leads to the same, in this scope.
 abbrev pub Begins : List Routine → Scope → ℕ → Result Next Halt → State → Got Answer → Type 0
 Begins units scope line result s g = Leads (λ next. begin_of units scope next s) line result s g
+
+-- A value that is found at once is what the meaning gives, or the meaning stops so. Where none is, nothing is said.
+abbrev pub Tells : ℕ → Result (Option Tree) Halt → State → Got Tree → Type 0
+Tells line (Ok (Some v)) s g = g ≡ gives v s
+Tells line (Ok None) s g = Unit {0}
+Tells line (Err h) s g = Halts line h s g
 
 -- the line on which the faults of a piece of work are
 abbrev pub first_line : Scope → Place → List Action → ℕ

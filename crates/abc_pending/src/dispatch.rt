@@ -88,14 +88,14 @@ fn begin_job<'a>(
     match job {
         Job::See(e) => see(alloc, scope, place, e, run, targets),
         Job::SeeActual(e) => see_actual(alloc, scope, place, e, run, targets),
-        Job::Try(test) => try_test(alloc, place, test),
+        Job::Try(test) => try_test(alloc, scope, place, test, run, targets),
         Job::Perform(_, _) => unreachable!(),
         Job::PerformAll(suite, at) => Ok(perform_all(place, suite, at)),
         Job::SeeRow(what, es, found) => see_row(alloc, place, what, es, found),
         Job::Spell(pieces, found) => spell(alloc, place, pieces, found),
         Job::Fill(fills, found) => fill(alloc, place, fills, found),
         Job::FillTable(pairs, found) => fill_table(alloc, place, pairs, found),
-        Job::Compare(value, links) => Ok(compare(place, value, links)),
+        Job::Compare(value, links) => compare(alloc, scope, place, value, links, run, targets),
         Job::Quantify(quantifier, bound, test, before, train) => quantify(
             alloc, scope, place, quantifier, bound, test, before, train, run, targets,
         ),

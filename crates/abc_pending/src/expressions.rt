@@ -1,16 +1,17 @@
 //! How the work on expressions begins.
-ghost use Rattle.std.specs.Prelude.{◌≡◌, ◌<◌, ◌+◌, Bool, List, IfOk};
+ghost use Rattle.std.specs.Prelude.{◌≡◌, ◌<◌, ◌+◌, ℕ, Bool, List, IfOk};
 ghost use Rattle.abc_num.specs.declared.lines.RawLine.{RawLine};
 ghost use Rattle.abc_tree.specs.declared.formulas.Expr.{out-Expr};
+ghost use Rattle.abc_tree.specs.declared.formulas.Expr.TheOpen.{Expr-F};
 ghost use Rattle.abc_tree.specs.declared.commands.Unit.{Unit as Routine};
 ghost use Rattle.abc_meaning.specs.State.{State};
-ghost use Rattle.abc_meaning.specs.Here.{Scope as Names};
-ghost use Rattle.abc_meaning.specs.Value.{value_with};
+ghost use Rattle.abc_meaning.specs.Here.{Scope as Names, refinement_at};
+ghost use Rattle.abc_meaning.specs.Value.{name_value, value_with};
 ghost use Rattle.abc_meaning.specs.Meaning.{meaning};
 ghost use Rattle.abc_acts.specs.Views.{at, scope_of, state_of, filling_of, tabling_of, wording_of};
 ghost use Rattle.abc_pending.specs.Leads.{as_val, gathered, doing, resume_expression};
-ghost use Rattle.abc_pending.specs.Pending.{see_row, spell, fill, fill_table};
-ghost use Rattle.abc_pending.specs.Views.{Begins, below_next, next_weight, purpose_of, expression_frame};
+ghost use Rattle.abc_pending.specs.Pending.{apply_left, apply_one, converted, filler, pair_associate, range_to, see_row, spell, fill, fill_table};
+ghost use Rattle.abc_pending.specs.Views.{Begins, Tells, begin_of, below_next, next_weight, purpose_of, expression_frame};
 ghost use Rattle.abc_pending.specs.Weights.{expr_size, exprs_size, pieces_size, fills_size, pairs_size, expression_weight};
 
 use crate::pending::{ForExpression, Job, Next, Purpose, Reply, Waiting, Work};
@@ -20,7 +21,7 @@ use abc_acts::{
     selected,
 };
 use abc_frames::Targets;
-use abc_tree::{Expr, Fill, Pair, Piece};
+use abc_tree::{Expr, Fill, Op, Pair, Piece, Template};
 use abc_value::{RunFault, Value};
 use std::alloc::Global;
 
@@ -67,13 +68,7 @@ fn see_node<'a>(
             place,
             Job::Spell(pieces.as_slice(), Wording::new(alloc)),
         ))),
-        Expr::Name(i) => match scope.refinement(i.0) {
-            Some(_) => Ok(Next::Go(Work(place, Job::Refine(Wanted::Value, i.0)))),
-            None => {
-                let value = plain_value(scope, run, targets, i.0)?;
-                Ok(Next::Give(Reply::Val(value)))
-            }
-        },
+        Expr::Name(i) => see_name(scope, place, i.0, run, targets),
         Expr::Compound(es) => Ok(Next::Go(Work(
             place,
             Job::SeeRow(Purpose::Compound, es.as_slice(), Vec::new(alloc)),
@@ -95,18 +90,134 @@ fn see_node<'a>(
             Waiting::Expression(place, ForExpression::ApplyOne(*op)),
             Work(place, Job::See(x.get())),
         )),
-        Expr::Apply2(op, x, y) => Ok(Next::Wait(
-            Waiting::Expression(place, ForExpression::ApplyLeft(*op, y.get())),
-            Work(place, Job::See(x.get())),
+        Expr::Apply2(op, x, y) => {
+            see_two(alloc, scope, place, *op, x.get(), y.get(), run, targets)
+        }
+        Expr::Call(template, es) => Ok(see_call(alloc, place, template, es.as_slice())),
+    }
+}
+
+/// A name: of an expression refinement, which is work of its own, or of a target.
+fn see_name<'a>(
+    scope: &Scope<'a>,
+    place: Place,
+    i: u32,
+    run: &Run,
+    targets: &Targets,
+) -> Result<Next<'a>, Halt>
+    ensures leads { (units : List Routine) (lines : List RawLine) (ended : Bool) → Begins units (scope_of scope.now) place.line result (state_of run.now targets.now lines ended) (as_val (name_value (meaning units place.levels) (at (scope_of scope.now) place.line) i (refinement_at (scope_of scope.now) i) (state_of run.now targets.now lines ended))) }
+    ensures scope { IfOk result (λ next. below_next (scope_of scope.now) next ≡ (scope_of scope.now)) }
+    ensures falls { IfOk result (λ next. next_weight next < 2) }
+{
+    match scope.refinement(i) {
+        Some(_) => Ok(Next::Go(Work(place, Job::Refine(Wanted::Value, i)))),
+        None => {
+            let value = plain_value(scope, run, targets, i)?;
+            Ok(Next::Give(Reply::Val(value)))
+        }
+    }
+}
+
+/// The call of a function, whose actuals are a row.
+fn see_call<'a>(alloc: Global, place: Place, template: &'a Template, es: &'a [Expr]) -> Next<'a>
+    ensures leads { (units : List Routine) (scope : Names) (s : State) → as_val (value_with units (meaning units place.levels) (at scope place.line) (Expr-F.Call template.now es.now) s) ≡ begin_of units scope result s }
+    ensures scope { (scope : Names) → below_next scope result ≡ scope }
+    ensures falls { next_weight result < 4 + exprs_size es.now }
+{
+    Next::Go(Work(
+        place,
+        Job::SeeRow(Purpose::Call(Wanted::Value, template), es, Vec::new(alloc)),
+    ))
+}
+
+/// The value of a number, or of a name that is no refinement: it is found without work of its own. None for all else.
+#[tactic(auto, using(crate::proofs::Levels::meaning_value, crate::proofs::Levels::value_at_zero))]
+pub fn value_at_once(
+    scope: &Scope<'_>,
+    place: Place,
+    e: &Expr,
+    run: &Run,
+    targets: &Targets,
+) -> Result<Option<Value>, Halt>
+    ensures { (units : List Routine) (lines : List RawLine) (ended : Bool) → Tells place.line result (state_of run.now targets.now lines ended) ((meaning units place.levels).value (at (scope_of scope.now) place.line) e.now (state_of run.now targets.now lines ended)) }
+{
+    if place.levels == 0 {
+        return Err(Halt::Fault(RunFault::TooDeep));
+    }
+    value_of_leaf(scope, e, run, targets)
+}
+
+/// The same, one level deeper.
+fn value_of_leaf(
+    scope: &Scope<'_>,
+    e: &Expr,
+    run: &Run,
+    targets: &Targets,
+) -> Result<Option<Value>, Halt>
+    ensures { (units : List Routine) (levels : ℕ) (line : ℕ) (lines : List RawLine) (ended : Bool) → Tells line result (state_of run.now targets.now lines ended) (value_with units (meaning units levels) (at (scope_of scope.now) line) (out-Expr e.now) (state_of run.now targets.now lines ended)) }
+{
+    match e {
+        Expr::Number(n) => Ok(Some(Value::number(*n))),
+        Expr::Name(i) => match scope.refinement(i.0) {
+            Some(_) => Ok(None),
+            None => {
+                let value = plain_value(scope, run, targets, i.0)?;
+                Ok(Some(value))
+            }
+        },
+        _ => Ok(None),
+    }
+}
+
+/// An operation of two places. An operand waits only where its value isn't found at once.
+#[tactic(auto, using(crate::proofs::AtOnce::val_goes, crate::proofs::AtOnce::lighter))]
+fn see_two<'a>(
+    alloc: Global,
+    scope: &Scope<'a>,
+    place: Place,
+    op: Op,
+    x: &'a Expr,
+    y: &'a Expr,
+    run: &Run,
+    targets: &Targets,
+) -> Result<Next<'a>, Halt>
+    ensures leads { (units : List Routine) (lines : List RawLine) (ended : Bool) → Begins units (scope_of scope.now) place.line result (state_of run.now targets.now lines ended) (as_val (value_with units (meaning units place.levels) (at (scope_of scope.now) place.line) (Expr-F.Apply2 op x.now y.now) (state_of run.now targets.now lines ended))) }
+    ensures scope { IfOk result (λ next. below_next (scope_of scope.now) next ≡ (scope_of scope.now)) }
+    ensures falls { IfOk result (λ next. next_weight next < 4 + expr_size x.now + expr_size y.now) }
+{
+    match value_at_once(scope, place, x, run, targets)? {
+        Some(left) => see_right(alloc, scope, place, op, left, y, run, targets),
+        None => Ok(Next::Wait(
+            Waiting::Expression(place, ForExpression::ApplyLeft(op, y)),
+            Work(place, Job::See(x)),
         )),
-        Expr::Call(template, es) => Ok(Next::Go(Work(
-            place,
-            Job::SeeRow(
-                Purpose::Call(Wanted::Value, template),
-                es.as_slice(),
-                Vec::new(alloc),
-            ),
-        ))),
+    }
+}
+
+/// The same, where the value of the left operand is there.
+fn see_right<'a>(
+    alloc: Global,
+    scope: &Scope<'a>,
+    place: Place,
+    op: Op,
+    left: Value,
+    y: &'a Expr,
+    run: &Run,
+    targets: &Targets,
+) -> Result<Next<'a>, Halt>
+    ensures leads { (units : List Routine) (lines : List RawLine) (ended : Bool) → Begins units (scope_of scope.now) place.line result (state_of run.now targets.now lines ended) (resume_expression units (meaning units place.levels) (at (scope_of scope.now) place.line) (apply_left op y.now) left (state_of run.now targets.now lines ended)) }
+    ensures scope { IfOk result (λ next. below_next (scope_of scope.now) next ≡ (scope_of scope.now)) }
+    ensures falls { IfOk result (λ next. next_weight next < 2 + expr_size y.now) }
+{
+    match value_at_once(scope, place, y, run, targets)? {
+        Some(right) => {
+            let value = applied(alloc, op, &left, &right)?;
+            Ok(Next::Give(Reply::Val(value)))
+        }
+        None => Ok(Next::Wait(
+            Waiting::Expression(place, ForExpression::ApplyRight(op, left)),
+            Work(place, Job::See(y)),
+        )),
     }
 }
 
@@ -249,29 +360,21 @@ pub fn take_value<'a>(
             found.push(value)?;
             Ok(Next::Go(Work(place, Job::SeeRow(what, others, found))))
         }
-        ForExpression::Converted(others, found) => {
-            let found = found.with_conversion(alloc, &value)?;
-            Ok(Next::Go(Work(place, Job::Spell(others, found))))
-        }
-        ForExpression::Filler(others, found) => {
-            let found = found.with_one(alloc, value)?;
-            Ok(Next::Go(Work(place, Job::Fill(others, found))))
-        }
+        ForExpression::Converted(others, found) => take_piece(alloc, place, others, found, value),
+        ForExpression::Filler(others, found) => take_filler(alloc, place, others, found, value),
         ForExpression::RangeFrom(last, others, found) => Ok(Next::Wait(
             Waiting::Expression(place, ForExpression::RangeTo(value, others, found)),
             Work(place, Job::See(last)),
         )),
         ForExpression::RangeTo(first, others, found) => {
-            let found = found.with_range(alloc, &first, &value)?;
-            Ok(Next::Go(Work(place, Job::Fill(others, found))))
+            take_range(alloc, place, first, others, found, value)
         }
         ForExpression::PairKey(associate, others, found) => Ok(Next::Wait(
             Waiting::Expression(place, ForExpression::PairAssociate(value, others, found)),
             Work(place, Job::See(associate)),
         )),
         ForExpression::PairAssociate(key, others, found) => {
-            let found = found.with_pair(alloc, key, value)?;
-            Ok(Next::Go(Work(place, Job::FillTable(others, found))))
+            take_pair(alloc, place, key, others, found, value)
         }
         ForExpression::SelectTable(key) => Ok(Next::Wait(
             Waiting::Expression(place, ForExpression::SelectKey(value)),
@@ -281,10 +384,7 @@ pub fn take_value<'a>(
             let value = selected(alloc, &table, &value)?;
             Ok(Next::Give(Reply::Val(value)))
         }
-        ForExpression::ApplyOne(op) => {
-            let value = applied_to_one(alloc, op, &value)?;
-            Ok(Next::Give(Reply::Val(value)))
-        }
+        ForExpression::ApplyOne(op) => take_operand(alloc, place, op, value),
         ForExpression::ApplyLeft(op, right) => Ok(Next::Wait(
             Waiting::Expression(place, ForExpression::ApplyRight(op, value)),
             Work(place, Job::See(right)),
@@ -294,4 +394,80 @@ pub fn take_value<'a>(
             Ok(Next::Give(Reply::Val(value)))
         }
     }
+}
+
+/// A text goes on behind the value of a conversion.
+fn take_piece<'a>(
+    alloc: Global,
+    place: Place,
+    others: &'a [Piece],
+    found: Wording,
+    value: Value,
+) -> Result<Next<'a>, Halt>
+    ensures leads { (units : List Routine) (scope : Names) (s : State) → Begins units scope place.line result s (resume_expression units (meaning units place.levels) (at scope place.line) (converted others.now (wording_of found)) value s) }
+    ensures scope { (scope : Names) → IfOk result (λ next. below_next scope next ≡ scope) }
+    ensures falls { IfOk result (λ next. next_weight next < 3 + pieces_size others.now) }
+{
+    let found = found.with_conversion(alloc, &value)?;
+    Ok(Next::Go(Work(place, Job::Spell(others, found))))
+}
+
+/// A list display goes on behind a filler that is one value.
+fn take_filler<'a>(
+    alloc: Global,
+    place: Place,
+    others: &'a [Fill],
+    found: Filling,
+    value: Value,
+) -> Result<Next<'a>, Halt>
+    ensures leads { (units : List Routine) (scope : Names) (s : State) → Begins units scope place.line result s (resume_expression units (meaning units place.levels) (at scope place.line) (filler others.now (filling_of found)) value s) }
+    ensures scope { (scope : Names) → IfOk result (λ next. below_next scope next ≡ scope) }
+    ensures falls { IfOk result (λ next. next_weight next < 3 + fills_size others.now) }
+{
+    let found = found.with_one(alloc, value)?;
+    Ok(Next::Go(Work(place, Job::Fill(others, found))))
+}
+
+/// And behind one that is a range, with the value of its end.
+fn take_range<'a>(
+    alloc: Global,
+    place: Place,
+    first: Value,
+    others: &'a [Fill],
+    found: Filling,
+    value: Value,
+) -> Result<Next<'a>, Halt>
+    ensures leads { (units : List Routine) (scope : Names) (s : State) → Begins units scope place.line result s (resume_expression units (meaning units place.levels) (at scope place.line) (range_to first others.now (filling_of found)) value s) }
+    ensures scope { (scope : Names) → IfOk result (λ next. below_next scope next ≡ scope) }
+    ensures falls { IfOk result (λ next. next_weight next < 3 + fills_size others.now) }
+{
+    let found = found.with_range(alloc, &first, &value)?;
+    Ok(Next::Go(Work(place, Job::Fill(others, found))))
+}
+
+/// A table display goes on behind a pair, with the associate of its key.
+fn take_pair<'a>(
+    alloc: Global,
+    place: Place,
+    key: Value,
+    others: &'a [Pair],
+    found: Tabling,
+    value: Value,
+) -> Result<Next<'a>, Halt>
+    ensures leads { (units : List Routine) (scope : Names) (s : State) → Begins units scope place.line result s (resume_expression units (meaning units place.levels) (at scope place.line) (pair_associate key others.now (tabling_of found)) value s) }
+    ensures scope { (scope : Names) → IfOk result (λ next. below_next scope next ≡ scope) }
+    ensures falls { IfOk result (λ next. next_weight next < 3 + pairs_size others.now) }
+{
+    let found = found.with_pair(alloc, key, value)?;
+    Ok(Next::Go(Work(place, Job::FillTable(others, found))))
+}
+
+/// The value of an operation of one place.
+fn take_operand<'a>(alloc: Global, place: Place, op: Op, value: Value) -> Result<Next<'a>, Halt>
+    ensures leads { (units : List Routine) (scope : Names) (s : State) → Begins units scope place.line result s (resume_expression units (meaning units place.levels) (at scope place.line) (apply_one op) value s) }
+    ensures scope { (scope : Names) → IfOk result (λ next. below_next scope next ≡ scope) }
+    ensures falls { IfOk result (λ next. next_weight next < 1) }
+{
+    let value = applied_to_one(alloc, op, &value)?;
+    Ok(Next::Give(Reply::Val(value)))
 }

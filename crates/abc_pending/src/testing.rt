@@ -1,32 +1,41 @@
 //! How the work on tests begins, and how it goes on with the answer for which it waited.
-ghost use Rattle.std.specs.Prelude.{◌≡◌, ◌∷◌, not, ◌<◌, ◌≤◌, ◌+◌, Bool, List, IfOk};
+ghost use Rattle.std.specs.Prelude.{◌≡◌, ◌∷◌, not, ◌<◌, ◌≤◌, ◌+◌, Bool, List, IfOk, drop};
 ghost use Rattle.abc_num.specs.declared.lines.RawLine.{RawLine};
 ghost use Rattle.abc_tree.specs.declared.formulas.Test.{out-Test};
+ghost use Rattle.abc_tree.specs.declared.formulas.Test.TheOpen.{Test-F};
 ghost use Rattle.abc_tree.specs.declared.commands.Unit.{Unit as Routine};
-ghost use Rattle.abc_meaning.specs.State.{State};
+ghost use Rattle.abc_meaning.specs.State.{State, after};
 ghost use Rattle.abc_meaning.specs.Here.{Scope as Names};
 ghost use Rattle.abc_meaning.specs.Holds.{holds_with, decides, if_decided};
 ghost use Rattle.abc_meaning.specs.Meaning.{meaning};
 ghost use Rattle.abc_acts.specs.Views.{at, held_of, scope_of, state_of};
-ghost use Rattle.abc_pending.specs.Leads.{as_truth, resume_test, resume_truth, doing};
-ghost use Rattle.abc_pending.specs.Pending.{compare, quantify, train, try};
+ghost use Rattle.abc_pending.specs.Leads.{as_val, as_truth, resume, resume_test, resume_truth, doing};
+ghost use Rattle.abc_pending.specs.Pending.{chain_next, compare, if_test, in_test, quantify, select_test, train, try, while_test};
 ghost use Rattle.abc_pending.specs.Views.{Begins, begin_of, below_next, next_weight, test_frame, truth_frame};
-ghost use Rattle.abc_pending.specs.Weights.{Falls, links_size, test_size, test_weight, truth_weight};
+ghost use Rattle.abc_pending.specs.Weights.{Falls, alternatives_size, expr_size, links_size, suite_size, test_size, test_weight, truth_weight};
 
+use crate::expressions::value_at_once;
 use crate::pending::{ForFlow, ForTest, ForTruth, Job, Next, Purpose, Reply, Waiting, Work};
 use crate::place::{Place, Wanted};
 use abc_acts::{Exit, Halt, Held, Run, Scope, Train, bind, compared, give_back, keep_names};
 use abc_frames::Targets;
 use abc_num::{Boxed, Items};
-use abc_tree::{Bound, Link, Quantifier, Test};
+use abc_tree::{Alternatives, Bound, Expr, Link, Op, Quantifier, Suite, Test};
 use abc_value::{RunFault, Value};
 use std::alloc::Global;
 
 /// The work on a test, where so many levels are left.
 #[tactic(auto, using(crate::proofs::Levels::meaning_holds, crate::proofs::Levels::holds_at_zero))]
-pub fn try_test<'a>(alloc: Global, place: Place, test: &'a Test) -> Result<Next<'a>, Halt>
-    ensures leads { (units : List Routine) (scope : Names) (s : State) → Begins units scope place.line result s (doing units (meaning units place.levels) (at scope place.line) (try test.now) s) }
-    ensures scope { (scope : Names) → IfOk result (λ next. below_next scope next ≡ scope) }
+pub fn try_test<'a>(
+    alloc: Global,
+    scope: &Scope<'a>,
+    place: Place,
+    test: &'a Test,
+    run: &Run,
+    targets: &Targets,
+) -> Result<Next<'a>, Halt>
+    ensures leads { (units : List Routine) (lines : List RawLine) (ended : Bool) → Begins units (scope_of scope.now) place.line result (state_of run.now targets.now lines ended) (doing units (meaning units place.levels) (at (scope_of scope.now) place.line) (try test.now) (state_of run.now targets.now lines ended)) }
+    ensures scope { IfOk result (λ next. below_next (scope_of scope.now) next ≡ (scope_of scope.now)) }
     ensures falls { IfOk result (λ next. next_weight next < test_size test.now) }
 {
     if place.levels == 0 {
@@ -36,49 +45,79 @@ pub fn try_test<'a>(alloc: Global, place: Place, test: &'a Test) -> Result<Next<
         line: place.line,
         levels: place.levels - 1,
     };
-    Ok(try_node(alloc, inner, test))
+    try_node(alloc, scope, inner, test, run, targets)
 }
 
 /// The same, one level deeper.
-fn try_node<'a>(alloc: Global, place: Place, test: &'a Test) -> Next<'a>
-    ensures leads { (units : List Routine) (scope : Names) (s : State) → as_truth (holds_with units (meaning units place.levels) (at scope place.line) (out-Test test.now) s) ≡ begin_of units scope result s }
-    ensures scope { (scope : Names) → below_next scope result ≡ scope }
-    ensures falls { next_weight result < test_size test.now }
+fn try_node<'a>(
+    alloc: Global,
+    scope: &Scope<'a>,
+    place: Place,
+    test: &'a Test,
+    run: &Run,
+    targets: &Targets,
+) -> Result<Next<'a>, Halt>
+    ensures leads { (units : List Routine) (lines : List RawLine) (ended : Bool) → Begins units (scope_of scope.now) place.line result (state_of run.now targets.now lines ended) (as_truth (holds_with units (meaning units place.levels) (at (scope_of scope.now) place.line) (out-Test test.now) (state_of run.now targets.now lines ended))) }
+    ensures scope { IfOk result (λ next. below_next (scope_of scope.now) next ≡ (scope_of scope.now)) }
+    ensures falls { IfOk result (λ next. next_weight next < test_size test.now) }
 {
     match test {
-        Test::Chain(first, links) => Next::Wait(
-            Waiting::Test(place, ForTest::ChainFirst(links.as_slice())),
-            Work(place, Job::See(first)),
-        ),
-        Test::Member(op, e, t) => Next::Wait(
+        Test::Chain(first, links) => {
+            see_chain(alloc, scope, place, first, links.as_slice(), run, targets)
+        }
+        Test::Member(op, e, t) => Ok(Next::Wait(
             Waiting::Test(place, ForTest::MemberLeft(*op, t)),
             Work(place, Job::See(e)),
-        ),
-        Test::And(left, right) => Next::Wait(
+        )),
+        Test::And(left, right) => Ok(Next::Wait(
             Waiting::Truth(place, ForTruth::AndThen(right)),
             Work(place, Job::Try(left.get())),
-        ),
-        Test::Or(left, right) => Next::Wait(
+        )),
+        Test::Or(left, right) => Ok(Next::Wait(
             Waiting::Truth(place, ForTruth::OrElse(right)),
             Work(place, Job::Try(left.get())),
-        ),
-        Test::Not(inner) => Next::Wait(
+        )),
+        Test::Not(inner) => Ok(Next::Wait(
             Waiting::Truth(place, ForTruth::Negated),
             Work(place, Job::Try(inner.get())),
-        ),
-        Test::Quantified(quantifier, bound, train, inner) => Next::Wait(
+        )),
+        Test::Quantified(quantifier, bound, train, inner) => Ok(Next::Wait(
             Waiting::Test(place, ForTest::Train(*quantifier, bound, inner)),
             Work(place, Job::See(train)),
-        ),
-        Test::Call(template, es) => Next::Go(Work(
+        )),
+        Test::Call(template, es) => Ok(Next::Go(Work(
             place,
             Job::SeeRow(
                 Purpose::Call(Wanted::Truth, template),
                 es.as_slice(),
                 Vec::new(alloc),
             ),
+        ))),
+        Test::Refinement(i) => Ok(Next::Go(Work(place, Job::Refine(Wanted::Truth, i.0)))),
+    }
+}
+
+/// A chain of relations, from its first operand on.
+#[tactic(auto, using(crate::proofs::AtOnce::truth_goes, crate::proofs::AtOnce::lighter))]
+fn see_chain<'a>(
+    alloc: Global,
+    scope: &Scope<'a>,
+    place: Place,
+    first: &'a Expr,
+    links: &'a [Link],
+    run: &Run,
+    targets: &Targets,
+) -> Result<Next<'a>, Halt>
+    ensures leads { (units : List Routine) (lines : List RawLine) (ended : Bool) → Begins units (scope_of scope.now) place.line result (state_of run.now targets.now lines ended) (as_truth (holds_with units (meaning units place.levels) (at (scope_of scope.now) place.line) (Test-F.Chain first.now links.now) (state_of run.now targets.now lines ended))) }
+    ensures scope { IfOk result (λ next. below_next (scope_of scope.now) next ≡ (scope_of scope.now)) }
+    ensures falls { IfOk result (λ next. next_weight next < 4 + expr_size first.now + links_size links.now) }
+{
+    match value_at_once(scope, place, first, run, targets)? {
+        Some(value) => compare(alloc, scope, place, value, links, run, targets),
+        None => Ok(Next::Wait(
+            Waiting::Test(place, ForTest::ChainFirst(links)),
+            Work(place, Job::See(first)),
         )),
-        Test::Refinement(i) => Next::Go(Work(place, Job::Refine(Wanted::Truth, i.0))),
     }
 }
 
@@ -209,46 +248,127 @@ pub fn take_truth<'a>(place: Place, frame: ForTruth<'a>, truth: bool) -> Result<
                 Err(Halt::Fault(RunFault::CheckFailed))
             }
         }
-        ForTruth::IfTest(suite) => {
-            if truth {
-                Ok(Next::Go(Work(place, Job::PerformAll(suite, 0))))
-            } else {
-                Ok(Next::Give(Reply::Went(Exit::GoesOn)))
-            }
-        }
+        ForTruth::IfTest(suite) => Ok(if_tested(place, suite, truth)),
         ForTruth::SelectTest(suite, others, at) => {
-            if truth {
-                Ok(Next::Go(Work(place, Job::PerformAll(suite, 0))))
-            } else {
-                Ok(Next::Go(Work(place, Job::Choose(others, at))))
-            }
+            Ok(alternative_tested(place, suite, others, at, truth))
         }
         ForTruth::WhileTest(turns, test, suite) => {
-            if truth {
-                Ok(Next::Wait(
-                    Waiting::Flow(place, ForFlow::WhileBody(turns, test, suite)),
-                    Work(place, Job::PerformAll(suite, 0)),
-                ))
-            } else {
-                Ok(Next::Give(Reply::Went(Exit::GoesOn)))
-            }
+            Ok(while_tested(place, turns, test, suite, truth))
         }
         ForTruth::ReportTest => Ok(Next::Give(Reply::Went(Exit::Reports(truth)))),
     }
 }
 
-/// A chain of relations from this value on, up to the first that fails.
-pub fn compare<'a>(place: Place, value: Value, links: &'a [Link]) -> Next<'a>
-    ensures leads { (units : List Routine) (scope : Names) (s : State) → doing units (meaning units place.levels) (at scope place.line) (compare value links.now) s ≡ begin_of units scope result s }
+/// The suite of IF, where its test holds.
+fn if_tested<'a>(place: Place, suite: &'a Suite, truth: bool) -> Next<'a>
+    ensures leads { (units : List Routine) (scope : Names) (s : State) → resume_truth units (meaning units place.levels) (at scope place.line) (if_test suite.now) truth s ≡ begin_of units scope result s }
     ensures scope { (scope : Names) → below_next scope result ≡ scope }
-    ensures falls { next_weight result < 2 + links_size links.now }
+    ensures falls { next_weight result < 2 + suite_size suite.now }
+{
+    if truth {
+        Next::Go(Work(place, Job::PerformAll(suite, 0)))
+    } else {
+        Next::Give(Reply::Went(Exit::GoesOn))
+    }
+}
+
+/// The suite of an alternative, where its test holds, or else the alternatives behind it.
+fn alternative_tested<'a>(
+    place: Place,
+    suite: &'a Suite,
+    others: &'a Alternatives,
+    from: usize,
+    truth: bool,
+) -> Next<'a>
+    ensures leads { (units : List Routine) (scope : Names) (s : State) → resume_truth units (meaning units place.levels) (at scope place.line) (select_test suite.now (drop from others.now)) truth s ≡ begin_of units scope result s }
+    ensures scope { (scope : Names) → below_next scope result ≡ scope }
+    ensures falls { next_weight result < 4 + suite_size suite.now + alternatives_size (drop from others.now) }
+{
+    if truth {
+        Next::Go(Work(place, Job::PerformAll(suite, 0)))
+    } else {
+        Next::Go(Work(place, Job::Choose(others, from)))
+    }
+}
+
+/// The suite of WHILE, where its test holds, with the turns behind it.
+fn while_tested<'a>(
+    place: Place,
+    turns: u64,
+    test: &'a Test,
+    suite: &'a Suite,
+    truth: bool,
+) -> Next<'a>
+    ensures leads { (units : List Routine) (scope : Names) (s : State) → resume_truth units (meaning units place.levels) (at scope place.line) (while_test turns test.now suite.now) truth s ≡ begin_of units scope result s }
+    ensures scope { (scope : Names) → below_next scope result ≡ scope }
+    ensures falls { next_weight result < 5 + test_size test.now + suite_size suite.now + suite_size suite.now }
+{
+    if truth {
+        Next::Wait(
+            Waiting::Flow(place, ForFlow::WhileBody(turns, test, suite)),
+            Work(place, Job::PerformAll(suite, 0)),
+        )
+    } else {
+        Next::Give(Reply::Went(Exit::GoesOn))
+    }
+}
+
+/// A chain of relations from this value on, up to the first that fails.
+pub fn compare<'a>(
+    alloc: Global,
+    scope: &Scope<'a>,
+    place: Place,
+    value: Value,
+    links: &'a [Link],
+    run: &Run,
+    targets: &Targets,
+) -> Result<Next<'a>, Halt>
+    ensures leads { (units : List Routine) (lines : List RawLine) (ended : Bool) → Begins units (scope_of scope.now) place.line result (state_of run.now targets.now lines ended) (doing units (meaning units place.levels) (at (scope_of scope.now) place.line) (compare value links.now) (state_of run.now targets.now lines ended)) }
+    ensures scope { IfOk result (λ next. below_next (scope_of scope.now) next ≡ (scope_of scope.now)) }
+    ensures falls { IfOk result (λ next. next_weight next < 2 + links_size links.now) }
 {
     match links {
-        [] => Next::Give(Reply::Truth(true)),
-        [first, others @ ..] => Next::Wait(
-            Waiting::Test(place, ForTest::ChainNext(value, first.op, others)),
-            Work(place, Job::See(&first.right)),
+        [] => Ok(Next::Give(Reply::Truth(true))),
+        [first, others @ ..] => see_link(
+            alloc,
+            scope,
+            place,
+            value,
+            first.op,
+            &first.right,
+            others,
+            run,
+            targets,
         ),
+    }
+}
+
+/// A relation of a chain, from its right operand on.
+#[tactic(auto, using(crate::proofs::AtOnce::wait_stops, crate::proofs::AtOnce::wait_goes, crate::proofs::AtOnce::lighter))]
+fn see_link<'a>(
+    alloc: Global,
+    scope: &Scope<'a>,
+    place: Place,
+    left: Value,
+    op: Op,
+    right: &'a Expr,
+    others: &'a [Link],
+    run: &Run,
+    targets: &Targets,
+) -> Result<Next<'a>, Halt>
+    ensures leads { (units : List Routine) (lines : List RawLine) (ended : Bool) → Begins units (scope_of scope.now) place.line result (state_of run.now targets.now lines ended) (after (as_val ((meaning units place.levels).value (at (scope_of scope.now) place.line) right.now (state_of run.now targets.now lines ended))) (resume units (scope_of scope.now) (in_test place (chain_next left op others.now)))) }
+    ensures scope { IfOk result (λ next. below_next (scope_of scope.now) next ≡ (scope_of scope.now)) }
+    ensures falls { IfOk result (λ next. next_weight next < 4 + expr_size right.now + links_size others.now) }
+{
+    match value_at_once(scope, place, right, run, targets)? {
+        Some(value) => {
+            let frame = ForTest::ChainNext(left, op, others);
+            take_test(alloc, scope, place, frame, value, run, targets)
+        }
+        None => Ok(Next::Wait(
+            Waiting::Test(place, ForTest::ChainNext(left, op, others)),
+            Work(place, Job::See(right)),
+        )),
     }
 }
 

@@ -12,7 +12,7 @@ use Rattle.abc_pending.specs.Views.{Begins, below_next, flow_frame, frame_line, 
 use Rattle.abc_pending.specs.Weights.{Falls, IsWithin, action_size, flow_weight, frame_weight, job_weight}
 use Rattle.abc_pending.proofs.dispatch.begin_job.Goals as goal
 use Rattle.abc_pending.specs.Weights.{suite_size, test_size}
-use Rattle.abc_pending.proofs.Beginning.{unspent_at_once, unspent_if, lessens_so, spent_turn, spent_call}
+use Rattle.abc_pending.proofs.Beginning.{unspent_at_once, unspent_if, falls_so, spent_turn, spent_call}
 
 -- no step is spent
 pub returns-in-See-clause-falls : goal.returns-in-See-clause-falls
@@ -53,14 +53,14 @@ pub returns-in-PerformAll-clause-falls : goal.returns-in-PerformAll-clause-falls
 returns-in-PerformAll-clause-falls c w = unspent_at_once c.args.units.now _ _ _ _ _ (ap (λ j. job_weight (job_of j)) c.in-PerformAll.is) refl c.perform_all.ensures.falls
 
 pub returns-in-Compare-clause-falls : goal.returns-in-Compare-clause-falls
-returns-in-Compare-clause-falls c w = unspent_at_once c.args.units.now _ _ _ _ _ (ap (λ j. job_weight (job_of j)) c.in-Compare.is) refl c.compare.ensures.falls
+returns-in-Compare-clause-falls c w = unspent_if c.args.units.now _ _ _ c.compare.result _ (ap (λ j. job_weight (job_of j)) c.in-Compare.is) refl c.compare.ensures.falls
 
 pub returns-in-Find-clause-falls : goal.returns-in-Find-clause-falls
 returns-in-Find-clause-falls c w = unspent_at_once c.args.units.now _ _ _ _ _ (ap (λ j. job_weight (job_of j)) c.in-Find.is) refl c.find.ensures.falls
 
 -- an element of a quantified test
 pub returns-in-Quantify-clause-falls : goal.returns-in-Quantify-clause-falls
-returns-in-Quantify-clause-falls c w = lessens_so c.args.units.now _ _ _ c.quantify.result _ (ap (λ j. job_weight (job_of j)) c.in-Quantify.is) (c.quantify.ensures.falls c.args.units.now)
+returns-in-Quantify-clause-falls c w = falls_so c.args.units.now _ _ _ c.quantify.result _ (ap (λ j. job_weight (job_of j)) c.in-Quantify.is) (c.quantify.ensures.falls c.args.units.now)
 
 -- a turn of WHILE is a step, and so is a call
 pub returns-in-Turn-clause-falls : goal.returns-in-Turn-clause-falls
