@@ -3,6 +3,7 @@ use Rattle.std.proofs.Common.{◌≡◌, ◌-◌, ◌≤◌, ℕ, List, Result, 
 use Rattle.std.specs.Prelude.{IfOk, IfErr, OnErr, IsErrOf}
 use Rattle.abc_num.specs.declared.lines.RawLine.{RawLine}
 use Rattle.abc_frames.specs.Maps.{Targets}
+use Rattle.abc_value.specs.declared.faults.RunFault.{RunFault}
 use Rattle.abc_outside.specs.Lines.{Unread, lines_in}
 use Rattle.abc_meaning.specs.State.{State, Flow, goes_on, quits, returns, reports, Got, gives, stops}
 use Rattle.abc_meaning.specs.Ran.{Ran as Meant, Outcome as MeantOutcome, stopped, ran_as}
@@ -68,6 +69,12 @@ is_run_after (Err Memory) before now unread budget g h = tt
 pub run_after : (r : Result Ran RunStop) (before kept now after : Targets) (unread : Unread) (budget : ℕ) (g : Got Flow) → kept ≡ before → after ≡ targets_after r kept now → Comes r now unread budget g → IsRun r after (lines_in unread) (ran_as before budget g)
 run_after r before kept now after unread budget g e h k =
     subst (λ t. IsRun r t (lines_in unread) (ran_as before budget g)) (ap (λ t. targets_after r t now) (sym e) ∙ sym h) (is_run_after r before now unread budget g k)
+
+-- after a fault the targets are those that were put back
+pub back_after_fault : (r : Result Ran RunStop) (before kept now after : Targets) → kept ≡ before → after ≡ targets_after r kept now
+    → IfOk r (λ x. (line : ℕ) (fault : RunFault) → x.outcome ≡ Fault line fault → after ≡ before)
+back_after_fault (Ok r) before kept now after e h = λ line fault is. h ∙ ap (λ o. targets_after_outcome o kept now) is ∙ e
+back_after_fault (Err stop) before kept now after e h = tt
 
 -- ---- what a machine that has ended leaves
 

@@ -1,5 +1,5 @@
 //! The run of an immediate command, whole or not at all.
-ghost use Rattle.std.specs.Prelude.{◌≡◌, ◌≤◌, ◌+◌, ◌⊎◌, true, IfOk, IfErr, OnErr, IsErrOf};
+ghost use Rattle.std.specs.Prelude.{◌≡◌, ◌≤◌, ◌+◌, ◌⊎◌, ℕ, true, IfOk, IfErr, OnErr, IsErrOf};
 ghost use Rattle.abc_num.specs.declared.limits.TheConstants.{MOST_DEPTH};
 ghost use Rattle.abc_outside.specs.Lines.{lines_in, Called, Failed};
 ghost use Rattle.abc_outside.specs.Outside.{RoseByOne};
@@ -9,6 +9,7 @@ ghost use Rattle.abc_meaning.specs.Ran.{ran, standing, starting};
 ghost use Rattle.abc_ground.specs.Groups.{whole};
 ghost use Rattle.abc_ground.specs.Typable.{IsTypable};
 ghost use Rattle.abc_sound.specs.Checked.{IsNeverWrong};
+ghost use Rattle.abc_value.specs.declared.faults.RunFault.{RunFault};
 ghost use Rattle.abc_machine.specs.Outcomes.{HasMemory as EndHasMemory};
 ghost use Rattle.abc_eval.specs.Runs.{HasMemory, IsAccepted, IsRun, WantsLine, WantsThere};
 ghost use Rattle.abc_machine.specs.Machine.{IsBusy, IsOf, pending, state_within};
@@ -52,6 +53,7 @@ pub fn run_item<L: Lines>(
     ensures memory { IfOk result (λ r. HasMemory r.outcome) }
     ensures steps { IfOk result (λ r. r.steps ≤ steps) }
     ensures kept { OnErr result (targets.new ≡ targets.old) }
+    ensures faulted { IfOk result (λ r. (line : ℕ) (fault : RunFault) → r.outcome ≡ Outcome.Fault line fault → targets.new ≡ targets.old) }
     ensures bound { L.bound lines.new ≡ L.bound lines.old }
     ensures taken { L.taken lines.old ≤ L.taken lines.new }
     ensures long { IsErrOf result RunStop.Long → L.taken lines.new ≡ L.bound lines.new }

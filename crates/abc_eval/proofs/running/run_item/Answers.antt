@@ -10,7 +10,7 @@ use Rattle.abc_sound.specs.Checked.{IsNeverWrong}
 use Rattle.abc_ground.specs.Groups.{whole}
 use Rattle.abc_eval.specs.Runs.{WantsLine, WantsThere}
 use Rattle.abc_eval.specs.inner.Coming.{targets_after}
-use Rattle.abc_eval.proofs.PuttingBack.{run_after, stays_typable}
+use Rattle.abc_eval.proofs.PuttingBack.{back_after_fault, run_after, stays_typable}
 use Rattle.abc_eval.proofs.Asking.{ran_wants, wants_there_for}
 use Rattle.abc_eval.proofs.running.run_item.Given.{Over}
 use Rattle.abc_eval.proofs.running.run_item.Goals.{After-run-answer, After-values_stay_regular}
@@ -64,6 +64,11 @@ returns-clause-typable g c = λ input may.
     (accepted.2.0, accepted.2.1)
     (c.checked_items_are_never_wrong.ensures.typable c.args.units.now c.args.targets.now c.args.c.now accepted.0 accepted.1 accepted.2 1000 (lines_in unread) unread.ends c.args.steps
     (c.values_stay_regular.ensures.lines unread.ends unread.bytes))
+
+-- after a fault they are those from before
+
+pub returns-clause-faulted : goal.returns-clause-faulted
+returns-clause-faulted g c = back_after_fault c.run-answer.result c.args.targets.now c.in-Ok.kept c.run-answer.new.targets c.put_back_unless_done.new.targets (search rules) (search rules)
 
 pub returns-clause-calls : goal.returns-clause-calls
 returns-clause-calls g c =
