@@ -63,15 +63,6 @@ last_in : {X : Type 0} (xs : List X) (y : X) → Contains (xs ++ y ∷ []) y
 last_in [] y = (zero, omega arith, refl)
 last_in (z ∷ xs) y = let r : Contains (xs ++ y ∷ []) y = last_in xs y in (suc r.0, omega (arith, r.1), r.2)
 
-pub none_asked : (w : List Cut) → SomeAsked w [] [] []
-none_asked w = record {
-  from = λ v targets proper ts agree met c m. absurd (omega (arith, m.1));
-  to = λ targets proper some. (number_everywhere, λ name a e. absurd (cc), All-nil _);
-}
-  where
-    number_everywhere : ℕ → Ground
-    number_everywhere i = type.Number
-
 module _ (w cs : List Cut) (c : Cut) (p : Principal) (exact : IsPrincipal w (template_of c) p) (old new : Seen) (before after : Vars) (asked : SomeAsked w cs old.demands before) where
   pub one_more : (s : SignatureVars) → IsInstance p old new before after s → SomeAsked w (cs ++ c ∷ []) new.demands after
   one_more s is = record { from = all_from; to = all_to }

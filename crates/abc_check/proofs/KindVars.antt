@@ -134,23 +134,6 @@ module _ (old mid last : Seen) (a e : VarId) (inside : All (DemandIn old.count) 
 
 -- ---- parts by their number
 
-pub list_parts : (v : ℕ → Ground) (parts : List VarId) (g : Ground) → IsOuter kind.List (types_of v parts) g → length parts ≡ 1
-list_parts v [] g is = absurd is
-list_parts v (a ∷ []) g is = refl
-list_parts v (a ∷ (b ∷ parts)) g is = absurd is
-
-pub table_parts : (v : ℕ → Ground) (parts : List VarId) (g : Ground) → IsOuter kind.Table (types_of v parts) g → length parts ≡ 2
-table_parts v [] g is = absurd is
-table_parts v (a ∷ []) g is = absurd is
-table_parts v (a ∷ (b ∷ [])) g is = refl
-table_parts v (a ∷ (b ∷ (c ∷ parts))) g is = absurd is
-
-pub no_list : (parts : List VarId) (old : Seen) → (length parts ≡ 1 → ⊥) → NoOuterVar kind.List parts old
-no_list parts old never v g proper m is = never (list_parts v parts g is)
-
-pub no_table : (parts : List VarId) (old : Seen) → (length parts ≡ 2 → ⊥) → NoOuterVar kind.Table parts old
-no_table parts old never v g proper m is = never (table_parts v parts g is)
-
 -- no proper type is a compound of fewer than two
 pub no_compound : (parts : List VarId) (old : Seen) → length parts < 2 → NoOuterVar kind.Compound parts old
 no_compound parts old few v g proper m is =

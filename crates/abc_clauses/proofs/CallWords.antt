@@ -1,6 +1,6 @@
 -- The words and actuals of a call are those that are computed for its tokens.
-use Rattle.std.proofs.Common.{◌≡◌, ◌<◌, ◌+◌, ℕ, suc, Bool, true, false, List, [], ◌∷◌, ◌++◌, take, drop, Option, Some, None, refl, ap, sym, ◌∙◌, subst, arith}
-use Rattle.std.specs.Prelude.{◌↔◌, Err, cond, option_map}
+use Rattle.std.proofs.Common.{◌≡◌, ◌+◌, ℕ, suc, Bool, true, false, List, [], ◌∷◌, ◌++◌, take, drop, Option, Some, None, refl, ap, sym, ◌∙◌, subst, arith}
+use Rattle.std.specs.Prelude.{◌↔◌, Err, option_map}
 use Rattle.std.specs.List.{prefix_len}
 use Rattle.std.proofs.lemmas.Option.{same_Some}
 use Rattle.std.proofs.lemmas.List.{append_assoc, take-append-drop}
@@ -201,10 +201,6 @@ plain_there (t.Number bytes ∷ ts) h = tt
 plain_there (t.Text bytes ∷ ts) h = tt
 plain_there (t.Other ∷ ts) h = tt
 
-pub plain_some : (ts : List Lexeme) → starts_plain ts ≡ true → 0 < prefix_len is_plain ts
-plain_some [] h = cc
-plain_some (token ∷ ts) h = subst (λ n. 0 < n) (sym (ap (λ b. cond b (1 + prefix_len is_plain ts) 0) h)) (omega arith)
-
 -- the chunk in front is the stretch of tokens before the next keyword
 stretched : (ts : List Lexeme) (n : ℕ) → n ≡ plain_length ts → starts_plain ts ≡ true → chunks_of ts ≡ stretch (take n ts) ∷ chunks_of (drop n ts)
 stretched ts n e h =
@@ -247,12 +243,3 @@ module _ (own : List (List ℕ)) (ts : List Lexeme) (n : ℕ) (is : n ≡ prefix
   took_none view old new fault.BadCommand h = no_actual h
   took_none view old new fault.TooMany h = h
   took_none view old new fault.Memory h = tt
-
--- a keyword in front is a word
-pub one_word : (own : List (List ℕ)) (x : List ℕ) (rest : List Lexeme) (words : List Word) (actuals : List Expr)
-    → with_rest (words, actuals) (words_of own (t.Keyword x ∷ rest)) ≡ with_rest (words ++ w.Key x ∷ [], actuals) (words_of own rest)
-one_word own x rest words actuals = by_rest (words_of own rest)
-  where
-    by_rest : (r : Option Call) → with_rest (words, actuals) (option_map (λ (read : Call). (w.Key x ∷ read.0, read.1)) r) ≡ with_rest (words ++ w.Key x ∷ [], actuals) r
-    by_rest None = refl
-    by_rest (Some read) = ap (λ (y : List Word). Some (y, actuals ++ read.1)) (sym (append_assoc words (w.Key x ∷ []) read.0))

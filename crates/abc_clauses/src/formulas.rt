@@ -4,7 +4,7 @@ ghost use Rattle.std.specs.List.{list_any};
 ghost use Rattle.abc_tree.specs.Regular.{every, is_test_kind, is_value_kind};
 ghost use Rattle.abc_expressions.specs.NamesOfTrees.{names_are};
 ghost use Rattle.abc_clauses.specs.Names.{refinement_at};
-ghost use Rattle.abc_clauses.specs.Fits.{test_fits};
+ghost use Rattle.abc_clauses.specs.Fits.{part_fits, test_fits};
 ghost use Rattle.abc_clauses.specs.Formulas.{beside_is_high, beside_is_placed, fit, head_is_high, head_is_placed, is_misplaced, is_too_high, node_is_high, node_is_placed, test_is_high, value_is_high};
 ghost use Rattle.abc_clauses.specs.inner.Naming.{address_is_fit, names_of_fill, names_of_pair, names_of_piece, names_of_link, gives_value};
 
@@ -205,19 +205,22 @@ fn addresses_fit(kinds: &[Option<RefinementKind>], parts: &[Expr]) -> bool
     true
 }
 
+/// Whether each name in the part of a text that is written, if there is one, gives a value.
+fn part_fits(kinds: &[Option<RefinementKind>], part: &Option<Expr>) -> bool
+    ensures { result ≡ part_fits [] kinds.now part.now }
+{
+    match part {
+        Some(part) => value_fits(kinds, part),
+        None => true,
+    }
+}
+
 /// Whether refinements stand in the formulas of the command where they may.
 fn node_is_placed(kinds: &[Option<RefinementKind>], node: &ActionNode) -> bool
     ensures { result ≡ node_is_placed [] kinds.now node.now }
 {
     match node {
-        ActionNode::Write {
-            before: _,
-            part,
-            after: _,
-        } => match part {
-            Some(part) => value_fits(kinds, part),
-            None => true,
-        },
+        ActionNode::Write { part, .. } => part_fits(kinds, part),
         ActionNode::Put { value, address } => {
             value_fits(kinds, value) && address_fits(kinds, address)
         }
@@ -237,11 +240,7 @@ fn node_is_placed(kinds: &[Option<RefinementKind>], node: &ActionNode) -> bool
         ActionNode::If(test, _) => test_fits(kinds, test),
         ActionNode::Select(_) => true,
         ActionNode::While(test, _) => test_fits(kinds, test),
-        ActionNode::For {
-            names: _,
-            train,
-            suite: _,
-        } => value_fits(kinds, train),
+        ActionNode::For { train, .. } => value_fits(kinds, train),
         ActionNode::Quit => true,
         ActionNode::Return(value) => value_fits(kinds, value),
         ActionNode::Report(test) => test_fits(kinds, test),

@@ -1,13 +1,9 @@
 -- What is shown of elements, one after the other, and what of it is still to come.
 use Rattle.std.proofs.Common.{◌≡◌, ℕ, zero, suc, ◌+◌, ◌-◌, ◌<◌, ◌≤◌, List, [], ◌∷◌, ◌++◌, length, get_or, drop, slice_get, replicate, Some, None, refl, sym, ap, ◌∙◌, arith}
-use Rattle.std.specs.Prelude.{if◌then◌else◌}
 use Rattle.std.specs.List.{flat_map}
-use Rattle.std.proofs.lemmas.Bool.{le-ltb, lt-ltb}
 use Rattle.std.proofs.lemmas.List.{drop_more, drop_all}
 use Rattle.std.proofs.lemmas.Option.{slice_get_within, get_or_from_slice_get}
-use Rattle.abc_num.specs.declared.limits.TheConstants.{MOST_OUTPUT}
 use Rattle.abc_tokens.specs.Bytes.{space}
-use Rattle.abc_inquiry.specs.declared.answering.Answered.TheVariants.{Shows, TooLong}
 use Rattle.abc_inquiry.specs.Inquiry.{within}
 
 -- the element at a place is shown next
@@ -30,10 +26,3 @@ none_shown f (x ∷ xs) (suc i) none = none_shown f xs i none
 pub space_next : (left : ℕ) → 0 < left → replicate left space ≡ (space ∷ []) ++ replicate (left - 1) space
 space_next zero h = absurd (omega (arith, h))
 space_next (suc left) h = let e : suc left - 1 ≡ left = omega arith in ap (λ n. space ∷ replicate n space) (sym e)
-
--- an answer is within the bound, or too long
-pub fits : (output : List ℕ) → length output ≤ MOST_OUTPUT → within output ≡ Shows output
-fits output h = ap (λ b. if b then TooLong else Shows output) (le-ltb MOST_OUTPUT (length output) h)
-
-pub is_too_long : (output : List ℕ) → MOST_OUTPUT < length output → within output ≡ TooLong
-is_too_long output h = ap (λ b. if b then TooLong else Shows output) (lt-ltb MOST_OUTPUT (length output) h)

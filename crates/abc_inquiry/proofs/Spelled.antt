@@ -1,10 +1,9 @@
 -- What a line without a fault asks for can be spelled.
-use Rattle.std.proofs.Common.{◌≡◌, ℕ, ◌^◌, ◌<◌, ◌≤◌, Bool, true, false, List, [], ◌∷◌, ◌++◌, length, take, drop, reverse, Option, None, Some, Result, Err, refl, sym, ap, subst, ◌∙◌, arith, length-drop}
+use Rattle.std.proofs.Common.{◌≡◌, ℕ, ◌≤◌, Bool, true, false, List, [], ◌∷◌, length, take, drop, reverse, Option, None, Some, Err, refl, sym, ap, subst, arith, length-drop}
 use Rattle.std.specs.Prelude.{◌==◌, bytes_eq, codes, if◌then◌else◌}
 use Rattle.std.proofs.lemmas.List.{length-reverse, reverse-append}
 use Rattle.abc_num.specs.Characters.{are_characters, AreCharacters}
 use Rattle.abc_num.specs.declared.limits.TheConstants.{MOST_LINE_BYTES}
-use Rattle.abc_num.specs.declared.lines.Line.{Line}
 use Rattle.abc_num.proofs.Characters.{tested_characters}
 use Rattle.abc_tokens.specs.Bytes.{space}
 use Rattle.abc_tokens.specs.ReadLine.{read_line, judged}
@@ -14,7 +13,7 @@ use Rattle.abc_tokens.specs.declared.kinds.TokenFault.TheVariants.{BadByte}
 use Rattle.abc_value.proofs.Characters.{characters-append, characters-drop}
 use Rattle.abc_tree.specs.declared.commands.Environment.TheVariants as asks
 use Rattle.abc_record.specs.Kept.{IsKeptText}
-use Rattle.abc_outline.specs.Rows.{all_seen, read_of, row_of, IsShort}
+use Rattle.abc_outline.specs.Rows.{all_seen, read_of}
 use Rattle.abc_faults.specs.declared.fault.FaultKind.{FaultKind}
 use Rattle.abc_faults.specs.Causes.{is_bad_byte}
 use Rattle.abc_faults.specs.Environments.{behind_spaces, before_spaces, behind_mark, asked_by}

@@ -3,7 +3,6 @@ mod Places
 mod ReadRows
 mod Cuts
 mod Gathered
-mod Joined
 mod Told
 mod Owned
 mod NameKinds

@@ -73,13 +73,6 @@ module _ (r : Refined) (behind : List Refined) where
       by_test true less e = cc
       by_test false less e = b ∙ sym ((placed names apart).nowhere (grind (arith, nat_tests)))
 
-  pub number_within : (names : List (List ℕ)) (i : ℕ) → Some i ≡ number_of names r.name → i < length names
-  number_within names i found = by_test (nat_lt (position_or_len is names) (length names)) refl found
-    where
-      by_test : (c : Bool) → nat_lt (position_or_len is names) (length names) ≡ c → Some i ≡ cond c (Some (position_or_len is names)) None → i < length names
-      by_test true less e = let same : i ≡ position_or_len is names = cc in grind (arith, nat_tests, same)
-      by_test false less e = cc
-
 pub none_more : (names : List (List ℕ)) (i : ℕ) → i < length names → name_kinds (take (i + 1) names) [] ≡ name_kinds (take i names) [] ++ None ∷ []
 none_more names i less = ap (λ k. name_kinds (take k names) []) (next i) ∙ by_place names i less
   where

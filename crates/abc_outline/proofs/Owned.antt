@@ -1,6 +1,5 @@
 -- The own names of an item, one line further.
-use Rattle.std.proofs.Common.{◌≡◌, ℕ, Bool, true, false, List, [], ◌∷◌, ◌++◌, refl, ap, sym, ◌∙◌, append_assoc}
-use Rattle.std.specs.Prelude.{if◌then◌else◌}
+use Rattle.std.proofs.Common.{◌≡◌, ℕ, List, [], ◌∷◌, ◌++◌, refl, ap, sym, ◌∙◌, append_assoc}
 use Rattle.abc_num.specs.Names.{number_of, with_name}
 use Rattle.abc_expressions.specs.Addresses.{each_once}
 use Rattle.abc_expressions.specs.NameTokens.{own_at, own_among}
@@ -8,11 +7,10 @@ use Rattle.abc_outline.specs.declared.edges.Edges.{Edges}
 use Rattle.abc_outline.specs.declared.edges.Role.{Role}
 use Rattle.abc_outline.specs.declared.edges.Setting.{Setting}
 use Rattle.abc_outline.specs.declared.naming.LineNames.{LineNames}
-use Rattle.abc_outline.specs.declared.refining.Refined.{Refined}
 use Rattle.abc_outline.specs.declared.rows.Row.{Row}
 use Rattle.abc_outline.specs.LineNames.{names_of}
 use Rattle.abc_outline.specs.Outline.{role_of}
-use Rattle.abc_outline.specs.OwnNames.{all_of, names_from, row_tokens, all_name_tokens, is_of_commands, command_words}
+use Rattle.abc_outline.specs.OwnNames.{all_of, names_from, row_tokens, all_name_tokens}
 
 each_append : (found xs ys : List (List ℕ)) → each_once found (xs ++ ys) ≡ each_once (each_once found xs) ys
 each_append found [] ys = refl
@@ -47,16 +45,3 @@ used_further own row rows ahead old new all a h n =
     ∙ sym (each_append old (own_among own (row_tokens row.read)) (own_among own (all_name_tokens rows)))
     ∙ ap (each_once old) (sym (own_append own (row_tokens row.read) (all_name_tokens rows)))
     ∙ ap (λ x. each_once old (own_among own (all_name_tokens x))) (sym a) ∙ h
-
-words_cons : (r : Refined) (more : List Refined) → command_words (r ∷ more) ≡ command_words (r ∷ []) ++ command_words more
-words_cons r more = step (is_of_commands r.kind)
-  where
-    step : (b : Bool) → (if b then r.name ∷ command_words more else command_words more) ≡ (if b then r.name ∷ [] else []) ++ command_words more
-    step true = refl
-    step false = refl
-
-pub commands_further : (r : Refined) (more ahead : List Refined) (old new all : List (List ℕ)) → ahead ≡ r ∷ more
-    → each_once old (command_words ahead) ≡ all → new ≡ each_once old (command_words (r ∷ [])) → each_once new (command_words more) ≡ all
-commands_further r more ahead old new all a h n =
-    ap (λ x. each_once x (command_words more)) n ∙ sym (each_append old (command_words (r ∷ [])) (command_words more))
-    ∙ ap (each_once old) (sym (words_cons r more)) ∙ ap (λ x. each_once old (command_words x)) (sym a) ∙ h

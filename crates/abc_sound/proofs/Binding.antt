@@ -1,27 +1,25 @@
 -- Names that are set to the fields of values of their types.
-use Rattle.std.proofs.Common.{◌≡◌, ◌∙◌, refl, ap, sym, subst, ℕ, suc, Bool, true, false, ◌&&◌, List, [], ◌∷◌, ◌++◌, map, length, Option, Some, None, if◌then◌else◌}
+use Rattle.std.proofs.Common.{◌≡◌, refl, ap, sym, subst, ℕ, List, [], ◌∷◌, ◌++◌, map, Option, Some, None}
 use Rattle.std.specs.Prelude.{slice_get}
-use Rattle.std.specs.List.{AllByRecursion, list_all}
-use Rattle.std.specs.Option.{IfSome}
+use Rattle.std.specs.List.{AllByRecursion}
 use Rattle.abc_num.specs.declared.types.Ground.{Ground}
 use Rattle.abc_num.specs.declared.types.Ground.TheVariants as type
-use Rattle.abc_value.specs.Tree.{Tree, Trees, compound, no_trees, more, trees, listed}
+use Rattle.abc_value.specs.Tree.{Tree, Trees, compound, no_trees, more, trees}
 use Rattle.abc_value.specs.Forms.{both}
 use Rattle.abc_value.specs.Types.{has, each_has}
 use Rattle.abc_value.specs.Regular.{IsRegular, AllRegular}
 use Rattle.abc_tree.specs.Lists.{flat}
 use Rattle.abc_tree.specs.RegularItems.{bound_names, bound_over}
 use Rattle.abc_tree.specs.declared.templates.Template.{Template}
-use Rattle.abc_tree.specs.declared.formulas.Bound.{Bound, roll-Bound, out-Bound, map-Bound}
+use Rattle.abc_tree.specs.declared.formulas.Bound.{Bound, roll-Bound, map-Bound}
 use Rattle.abc_tree.specs.declared.formulas.Bound.TheOpen.{Bound-F}
-use Rattle.abc_tree.specs.declared.formulas.Bound.TheViews.{roll-out-Bound}
 use Rattle.abc_tree.specs.declared.formulas.Bound.TheFolds.{fold-roll-Bound, ind-Bound}
-use Rattle.abc_ground.specs.Seen.{Node, Nodes, name, fields, node, nodes, bound_seen, seen_bound}
+use Rattle.abc_ground.specs.Seen.{Node, name, fields, bound_seen, seen_bound}
 use Rattle.abc_ground.specs.Fits.{Signature, Typing, IsHad, AreFields, RuleFits}
 use Rattle.abc_meaning.specs.Bindings.{Bindings, bindings, bindings_over, at_fields, at_compound}
 use Rattle.abc_meaning.proofs.Opened.{together}
 use Rattle.abc_sound.proofs.Typed.{fields_of}
-use Rattle.abc_sound.proofs.Expressions.{NodeFits, NodesFit, had_by}
+use Rattle.abc_sound.proofs.Expressions.{NodeFits}
 use Rattle.abc_sound.proofs.Testing.{BoundFits, BoundsFit, bounds_fit}
 use Rattle.abc_sound.proofs.Values.{IsA, AreEach}
 

@@ -1,6 +1,6 @@
 -- A part that is changed keeps its type, and so does the whole.
-use Rattle.std.proofs.Common.{◌≡◌, ◌∙◌, refl, ap, sym, subst, ℕ, zero, suc, Bool, true, false, List, [], ◌∷◌, ◌++◌, Option, Some, None, Result, Ok, Err, if◌then◌else◌, inl, inr}
-use Rattle.std.specs.Prelude.{slice_get, cond}
+use Rattle.std.proofs.Common.{◌≡◌, ◌∙◌, refl, sym, subst, Bool, true, false, List, [], ◌∷◌, ◌++◌, Option, Some, None, Ok, Err, if◌then◌else◌}
+use Rattle.std.specs.Prelude.{slice_get}
 use Rattle.std.specs.List.{AllByRecursion}
 use Rattle.std.specs.Option.{IfSome}
 use Rattle.std.specs.Ordering.{is_eq}
@@ -9,18 +9,17 @@ use Rattle.abc_num.specs.declared.types.Ground.TheVariants as type
 use Rattle.abc_value.specs.declared.faults.RunFault.{RunFault}
 use Rattle.abc_value.specs.declared.faults.RunFault.TheVariants.{NoKey, NoElement}
 use Rattle.abc_value.specs.declared.faults.ValueFault.{ValueFault}
-use Rattle.abc_value.specs.Tree.{Tree, Trees, number, text, compound, list, table, trees, pairs, no_trees, more, table_of}
+use Rattle.abc_value.specs.Tree.{Tree, Trees, list, table, trees, pairs, no_trees, more}
 use Rattle.abc_value.specs.Types.{has, each_has, all_have, pairs_have}
-use Rattle.abc_value.specs.Forms.{Form, anything, form_of, both}
+use Rattle.abc_value.specs.Forms.{anything, form_of, both}
 use Rattle.abc_value.specs.Order.{order}
 use Rattle.abc_value.specs.Parts.{parts_of, pairs_of}
 use Rattle.abc_value.specs.Sizes.{size_fault}
 use Rattle.abc_value.specs.Items.{by_fault, if_small}
 use Rattle.abc_value.specs.Changes.{add, without, is_element, with_pair, without_key, associate_of}
-use Rattle.abc_value.proofs.Grounds.{compound_part}
 use Rattle.abc_value.proofs.Shaping.{has_form}
 use Rattle.abc_predef.proofs.Typed.{typed_parts, add_typed, list_of_type, typed_pairs, with_typed}
-use Rattle.abc_meaning.specs.State.{Step, key, Address, Addresses, place, several, no_addresses, more_addresses, Stop, faulty, wrong}
+use Rattle.abc_meaning.specs.State.{Step, key, Address, Addresses, place, several, no_addresses, more_addresses, faulty}
 use Rattle.abc_meaning.specs.Changing.{Change, puts, inserts, removes, deletes, Part, Changed, sized, if_fit, changed_to, with_associate, changed, parts, parts_all, fielded, fielded_all}
 use Rattle.abc_meaning.specs.Fits.{fits_table, fits_list}
 use Rattle.abc_meaning.proofs.Opened.{together}

@@ -1,6 +1,6 @@
 -- What fits, fits part by part: expressions.
-use Rattle.std.proofs.Common.{◌≡◌, ◌∙◌, refl, ap, sym, subst, ℕ, suc, Bool, true, false, ◌&&◌, List, [], ◌∷◌, ◌++◌, map, length, Option, Some, None, if◌then◌else◌}
-use Rattle.std.specs.Prelude.{slice_get, nat_le, nat_lt}
+use Rattle.std.proofs.Common.{◌≡◌, ◌∙◌, refl, ap, sym, subst, ℕ, Bool, true, false, ◌&&◌, List, [], ◌∷◌, ◌++◌, map, length, Option, Some, None, if◌then◌else◌}
+use Rattle.std.specs.Prelude.{slice_get, nat_le}
 use Rattle.std.specs.List.{AllByRecursion}
 use Rattle.std.proofs.lemmas.Bool.{and_parts}
 use Rattle.std.proofs.lemmas.List.{append-nil}
@@ -23,12 +23,11 @@ use Rattle.abc_tree.specs.declared.formulas.Expr.TheViews.{roll-out-Expr, roll-o
 use Rattle.abc_tree.specs.declared.formulas.Expr.TheFolds.{fold-roll-Expr, fold-roll-Fill, fold-roll-Piece, fold-roll-Pair}
 use Rattle.abc_tree.specs.declared.formulas.Fill.{Fill, fold-Fill, roll-Fill, out-Fill, map-Fill}
 use Rattle.abc_tree.specs.declared.formulas.Piece.{Piece, fold-Piece, roll-Piece, out-Piece, map-Piece}
-use Rattle.abc_tree.specs.declared.formulas.Pair.{Pair, fold-Pair, roll-Pair, out-Pair, map-Pair}
-use Rattle.abc_ground.specs.Seen.{Rule, numeral, characters, name, result, fields, nothing, elements, entries, selection, row, test_row, one_type, train, member, line_of_text, any, Node, Nodes, node, call, no_nodes, more, nodes, leaf, over, over_two, call_of, Filled, filled, any_ranged, piece_seen, fill_seen, pair_seen, expression_seen, seen, seen_fill, seen_piece, seen_pair}
+use Rattle.abc_tree.specs.declared.formulas.Pair.{Pair, fold-Pair, roll-Pair, out-Pair}
+use Rattle.abc_ground.specs.Seen.{Rule, numeral, characters, name, result, fields, nothing, elements, entries, selection, row, any, Node, Nodes, node, call, no_nodes, more, nodes, call_of, Filled, filled, any_ranged, piece_seen, fill_seen, pair_seen, expression_seen, seen, seen_fill, seen_piece, seen_pair}
 use Rattle.abc_ground.specs.Fits.{Signature, Typing, IsHad, AreAll, AreEntries, AreFields, IsRanged, ValueFits, RuleFits, IsAny, IsGiven, CallFits, fits, each_fits}
 use Rattle.abc_ground.specs.Calls.{any_allowed}
 use Rattle.abc_meaning.specs.Here.{Scope, in_command, in_unit}
-use Rattle.abc_meaning.specs.Written.{numbers_in}
 use Rattle.abc_meaning.proofs.Opened.{front, behind, InExpr, InPiece, InFill, InPair, InLayer, in_expr}
 
 abbrev pub Layer : Type 0

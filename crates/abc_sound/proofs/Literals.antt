@@ -1,5 +1,5 @@
 -- A literal without `{}` has one type: what has the form of an example has its type.
-use Rattle.std.proofs.Common.{◌≡◌, ◌∙◌, refl, ap, sym, subst, ℕ, Bool, true, false, ◌&&◌, List, [], ◌∷◌, ◌++◌, map, length, Option, Some, None, is_some}
+use Rattle.std.proofs.Common.{◌≡◌, ◌∙◌, refl, ap, sym, subst, Bool, true, ◌&&◌, List, [], ◌∷◌, map, length, Option, Some, None, is_some}
 use Rattle.std.specs.Prelude.{option_map, nat_le}
 use Rattle.std.specs.List.{AllByRecursion}
 use Rattle.std.proofs.lemmas.Bool.{and_parts}
@@ -7,31 +7,31 @@ use Rattle.abc_num.specs.declared.types.Ground.{Ground}
 use Rattle.abc_num.specs.declared.types.Ground.TheVariants as type
 use Rattle.abc_value.specs.Tree.{Tree}
 use Rattle.abc_value.specs.Types.{has}
-use Rattle.abc_value.specs.Forms.{Form, Forms, anything, a_number, a_text, a_compound, a_list, a_table, forms, no_forms, more_forms, both, joined, form_of, fits as of_form, each_fits as each_of_forms, Fits}
+use Rattle.abc_value.specs.Forms.{Form, a_number, a_text, a_compound, a_list, a_table, forms, both, joined, form_of, fits as of_form, each_fits as each_of_forms, Fits}
 use Rattle.abc_value.proofs.Joins.{fits_joined, of_list, of_table}
 use Rattle.abc_value.proofs.Shaping.{form_has, a_type}
 use Rattle.abc_tree.specs.Lists.{flat}
-use Rattle.abc_tree.specs.Regular.{Names, every, some, has_regular_parts, expression_is, fill_is, piece_is, pair_is, AsLiteral, no_literal, only_literal, with_sign, divided, all_literals, piece_literal, fill_literal, pair_literal, as_literal, is_literal}
+use Rattle.abc_tree.specs.Regular.{Names, every, some, has_regular_parts, expression_is, fill_is, piece_is, pair_is, AsLiteral, with_sign, divided, all_literals, piece_literal, fill_literal, pair_literal, as_literal}
 use Rattle.abc_tree.specs.declared.operations.Op.{Op}
 use Rattle.abc_tree.specs.declared.operations.Op.TheVariants as op
 use Rattle.abc_tree.specs.declared.templates.Template.{Template}
-use Rattle.abc_tree.specs.declared.formulas.Expr.{Expr, fold-Expr, roll-Expr, out-Expr, map-Expr}
-use Rattle.abc_tree.specs.declared.formulas.Expr.TheOpen.{Expr-F, Fill-F, Piece-F, Pair-F}
-use Rattle.abc_tree.specs.declared.formulas.Expr.TheFolds.{ind-Expr, fold-roll-Expr, fold-roll-Fill, fold-roll-Piece, fold-roll-Pair}
+use Rattle.abc_tree.specs.declared.formulas.Expr.{Expr, fold-Expr, roll-Expr, map-Expr}
+use Rattle.abc_tree.specs.declared.formulas.Expr.TheOpen.{Expr-F, Fill-F, Pair-F}
+use Rattle.abc_tree.specs.declared.formulas.Expr.TheFolds.{ind-Expr, fold-roll-Expr, fold-roll-Fill, fold-roll-Pair}
 use Rattle.abc_tree.specs.declared.formulas.Fill.{Fill, fold-Fill, roll-Fill, map-Fill}
-use Rattle.abc_tree.specs.declared.formulas.Piece.{Piece, fold-Piece, roll-Piece, map-Piece}
+use Rattle.abc_tree.specs.declared.formulas.Piece.{Piece, fold-Piece}
 use Rattle.abc_tree.specs.declared.formulas.Pair.{Pair, fold-Pair, roll-Pair, out-Pair, out-roll-Pair, map-Pair}
 use Rattle.abc_predef.specs.declared.table.Letter.{Letter}
 use Rattle.abc_predef.specs.declared.table.Letter.TheVariants as letter
 use Rattle.abc_predef.specs.Signatures.{result_of}
 use Rattle.abc_predef.specs.Takes.{StandsFor}
-use Rattle.abc_ground.specs.Seen.{Node, Nodes, Filled, filled, nodes, more, no_nodes, numeral, any_ranged, expression_seen, fill_seen, piece_seen, pair_seen, seen, seen_fill, seen_piece, seen_pair}
-use Rattle.abc_ground.specs.Fits.{Signature, Typing, AreAll, AreEntries, AreFields, ValueFits, RuleFits, fits, each_fits}
+use Rattle.abc_ground.specs.Seen.{Node, Nodes, Filled, filled, nodes, more, numeral, expression_seen, fill_seen, piece_seen, pair_seen, seen, seen_fill, seen_pair}
+use Rattle.abc_ground.specs.Fits.{Signature, Typing, AreAll, AreEntries, AreFields, ValueFits, fits}
 use Rattle.abc_meaning.specs.Fits.{agree, forms_in, fields_in, fill_form, piece_form, pair_form, literal_form, example_form}
 use Rattle.abc_meaning.specs.Here.{Scope}
-use Rattle.abc_meaning.proofs.Opened.{front, behind}
+use Rattle.abc_meaning.proofs.Opened.{front}
 use Rattle.abc_sound.proofs.Typed.{some_result}
-use Rattle.abc_sound.proofs.Expressions.{Layer, names_for, see, see_fill, pair_opened, numeral_by, NodeFits, NodesFit, ExprFits, ExprsFit, exprs_fit, expr_one, each_of_nodes, split_all, Elements, of_element, every_of, regular_fill, regular_piece, regular_pair, is_layer}
+use Rattle.abc_sound.proofs.Expressions.{Layer, names_for, see, see_fill, pair_opened, numeral_by, NodeFits, NodesFit, ExprFits, ExprsFit, exprs_fit, each_of_nodes, split_all, Elements, of_element, every_of, regular_fill, regular_piece, regular_pair, is_layer}
 
 -- each type of the form is this one
 abbrev pub IsOnly : Option Form → Ground → Type 0

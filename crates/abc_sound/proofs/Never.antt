@@ -1,26 +1,23 @@
 -- An accepted command is never wrong, and the targets keep their types.
-use Rattle.std.proofs.Common.{◌≡◌, ◌∙◌, refl, sym, ap, subst, ℕ, zero, suc, Bool, List, [], ◌∷◌, map, length, arith}
-use Rattle.std.specs.Prelude.{◌≢◌, ◌<◌, slice_index_or}
+use Rattle.std.proofs.Common.{◌≡◌, refl, ℕ, zero, suc, Bool, List, [], ◌∷◌, arith}
 use Rattle.std.specs.List.{All, AllByRecursion}
 use Rattle.abc_num.specs.declared.lines.RawLine.{RawLine}
 use Rattle.abc_num.specs.declared.types.Ground.{Ground}
-use Rattle.abc_value.specs.Tree.{Tree}
 use Rattle.abc_value.specs.Types.{has}
 use Rattle.abc_tree.specs.declared.commands.Command.{Command}
 use Rattle.abc_tree.specs.declared.commands.Unit.{Unit as Routine}
-use Rattle.abc_frames.specs.Maps.{Targets, AreRegular}
+use Rattle.abc_frames.specs.Maps.{Targets}
 use Rattle.abc_ground.specs.Seen.{leaf, result}
-use Rattle.abc_ground.specs.Fits.{Typing}
 use Rattle.abc_ground.specs.Groups.{whole}
-use Rattle.abc_ground.specs.Typable.{AreTypes, IsTypable, IsTypableWith, CommandMayFit, IsOffered}
+use Rattle.abc_ground.specs.Typable.{AreTypes, CommandMayFit, IsOffered}
 use Rattle.abc_meaning.specs.State.{State, Stop, faulty, wrong, wants, Got, gives, stops, Flow, goes_on, quits, returns, reports}
 use Rattle.abc_meaning.specs.Here.{in_command}
 use Rattle.abc_meaning.specs.Meaning.{meaning}
-use Rattle.abc_meaning.specs.Ran.{Outcome, done, quit, stopped, outcome_of, ran, ran_as, starting, standing}
-use Rattle.abc_meaning.specs.Regular.{IsShort, IsNumbered, HasValues, EachGivesValues, ValuesStayRegular}
+use Rattle.abc_meaning.specs.Ran.{quit, stopped, outcome_of, ran, ran_as, starting, standing}
+use Rattle.abc_meaning.specs.Regular.{IsShort, IsNumbered, ValuesStayRegular}
 use Rattle.abc_sound.specs.Checked.{IsReadUnit, IsSessionItem, IsNeverWrong, AcceptedIsNeverWrong, TargetsKeepTheirTypes, WorkspaceStaysTypable}
 use Rattle.abc_sound.proofs.Leaving.{Sure, sure, IsFine, Leaves}
-use Rattle.abc_sound.proofs.States.{IsTyped, IsReady}
+use Rattle.abc_sound.proofs.States.{IsReady}
 use Rattle.abc_sound.proofs.Nodes.{FlowIs, all_good}
 use Rattle.abc_sound.proofs.Units.{Allowed, Present, offered_allowed, command_more}
 use Rattle.abc_sound.proofs.Places.{most, called_is, plain_is, command_place, command_ok}

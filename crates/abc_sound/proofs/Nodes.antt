@@ -1,6 +1,6 @@
 -- All nodes at all levels: where a tree fits and the state is typed, no part of a run is wrong.
-use Rattle.std.proofs.Common.{◌≡◌, ◌∙◌, refl, ap, sym, subst, ℕ, zero, suc, Bool, true, false, not, ◌&&◌, List, [], ◌∷◌, ◌++◌, map, length, Option, Some, None, Result, Ok, Err, if◌then◌else◌, is_some, append_assoc, arith}
-use Rattle.std.specs.Prelude.{◌<◌, ◌≤◌, max, slice_get, option_and_then, option_map, nat_le}
+use Rattle.std.proofs.Common.{◌≡◌, ◌∙◌, refl, ap, sym, subst, ℕ, zero, suc, Bool, true, false, not, ◌&&◌, List, [], ◌∷◌, ◌++◌, map, length, Option, Some, None, Ok, if◌then◌else◌, is_some, append_assoc, arith}
+use Rattle.std.specs.Prelude.{◌<◌, slice_get, option_and_then, nat_le}
 use Rattle.std.specs.List.{AllByRecursion, list_all}
 use Rattle.std.specs.Option.{IfSome}
 use Rattle.std.specs.Ordering.{nat_cmp}
@@ -12,35 +12,32 @@ use Rattle.abc_num.specs.Names.{number_of}
 use Rattle.abc_num.specs.Number.{IsNumber}
 use Rattle.abc_num.specs.Types.{IsTrainOf}
 use Rattle.abc_num.specs.declared.limits.TheConstants.{MOST_TREE_HEIGHT}
-use Rattle.abc_num.specs.declared.lines.RawLine.{RawLine}
 use Rattle.abc_num.specs.declared.types.Ground.{Ground}
 use Rattle.abc_num.specs.declared.types.Ground.TheVariants as type
 use Rattle.abc_value.specs.declared.faults.RunFault.TheVariants.{NoValue}
-use Rattle.abc_value.specs.Tree.{Tree, trees, number, empty}
+use Rattle.abc_value.specs.Tree.{Tree, trees, number}
 use Rattle.abc_value.specs.Types.{has}
-use Rattle.abc_value.specs.Forms.{Form, anything, form_of, joined, Fits}
+use Rattle.abc_value.specs.Forms.{anything, form_of, joined, Fits}
 use Rattle.abc_value.specs.Items.{elements_of}
 use Rattle.abc_value.specs.Parts.{parts_of as elements_in}
 use Rattle.abc_value.specs.Printed.{outer}
 use Rattle.abc_value.specs.Regular.{IsRegular}
-use Rattle.abc_value.proofs.Joins.{joined_fits, compound_table}
+use Rattle.abc_value.proofs.Joins.{joined_fits}
 use Rattle.abc_value.proofs.Shaping.{has_form}
 use Rattle.abc_frames.specs.Maps.{Frame, with_value_at}
-use Rattle.abc_tree.specs.Height.{above, highest, height, height_over, piece_heights, fill_heights, pair_heights}
+use Rattle.abc_tree.specs.Height.{height}
 use Rattle.abc_tree.specs.Lists.{flat}
-use Rattle.abc_tree.specs.Regular.{is_call, is_command, is_there, is_value_kind, is_test_kind, is_address, address_is}
+use Rattle.abc_tree.specs.Regular.{is_call, is_command, is_there, is_value_kind, is_test_kind, is_address}
 use Rattle.abc_tree.specs.RegularItems.{Part, Parts, value, address, test, is_alone, parts_of, bound_names, bound_over, formal_names}
 use Rattle.abc_tree.specs.Units.{unit_of}
 use Rattle.abc_tree.specs.declared.operations.Op.{Op}
 use Rattle.abc_tree.specs.declared.templates.Template.{Template}
 use Rattle.abc_tree.specs.declared.formulas.NameId.{NameId}
-use Rattle.abc_tree.specs.declared.formulas.Expr.{Expr, fold-Expr, out-Expr, map-Expr}
+use Rattle.abc_tree.specs.declared.formulas.Expr.{Expr, out-Expr}
 use Rattle.abc_tree.specs.declared.formulas.Expr.TheOpen.{Expr-F, Fill-F, Piece-F, Pair-F}
-use Rattle.abc_tree.specs.declared.formulas.Expr.TheViews.{roll-out-Expr}
-use Rattle.abc_tree.specs.declared.formulas.Expr.TheFolds.{fold-roll-Expr}
-use Rattle.abc_tree.specs.declared.formulas.Fill.{Fill, fold-Fill, out-Fill}
-use Rattle.abc_tree.specs.declared.formulas.Piece.{Piece, fold-Piece, out-Piece}
-use Rattle.abc_tree.specs.declared.formulas.Pair.{Pair, fold-Pair, out-Pair}
+use Rattle.abc_tree.specs.declared.formulas.Fill.{Fill, out-Fill}
+use Rattle.abc_tree.specs.declared.formulas.Piece.{Piece, out-Piece}
+use Rattle.abc_tree.specs.declared.formulas.Pair.{Pair, out-Pair}
 use Rattle.abc_tree.specs.declared.formulas.Bound.{Bound, out-Bound, map-Bound}
 use Rattle.abc_tree.specs.declared.formulas.Bound.TheOpen.{Bound-F}
 use Rattle.abc_tree.specs.declared.formulas.Bound.TheViews.{roll-out-Bound}
@@ -58,35 +55,34 @@ use Rattle.abc_tree.specs.declared.commands.RefinementKind.{RefinementKind}
 use Rattle.abc_tree.specs.declared.commands.RefinementKind.TheVariants as refines
 use Rattle.abc_tree.specs.declared.commands.Unit.{Unit as Routine}
 use Rattle.abc_ground.specs.Seen.{Node, leaf, name as name_rule, result, name_place, place_in}
-use Rattle.abc_ground.specs.Fits.{Signature, Typing, IsHad, AreAll, AreFields, AreActuals, IsGiven, CallFits, RuleFits}
-use Rattle.abc_meaning.specs.State.{key, Address, Addresses, place, several, no_addresses, more_addresses, Formal, State, gives, stops, Run, after, becomes, Flow, goes_on, quits, returns, reports, ◌>>=◌, ◌>>◌}
-use Rattle.abc_meaning.specs.Here.{Here, Scope, in_command, in_unit, at_line, within, names_in, is_bound, look, spend, fault, refinement_named, refinement_at}
+use Rattle.abc_ground.specs.Fits.{Signature, Typing, IsHad, AreAll, AreActuals, IsGiven, CallFits, RuleFits}
+use Rattle.abc_meaning.specs.State.{key, Address, Addresses, place, State, gives, Run, after, Flow, goes_on, quits, returns, reports}
+use Rattle.abc_meaning.specs.Here.{Here, Scope, in_unit, at_line, within, names_in, is_bound, look, spend, refinement_named, refinement_at}
 use Rattle.abc_meaning.specs.Deeper.{Deeper, Actual}
 use Rattle.abc_meaning.specs.Fits.{has_type, train_elements, example_form, is_test as is_test_of}
-use Rattle.abc_meaning.specs.Bindings.{Bindings, bindings, at_fields, assign_all, bind, held}
-use Rattle.abc_meaning.specs.Calls.{then_on, apart, undone, entering, returned, reported, with_bindings, suite, body_over, entered, called, function_call, predicate_call, refined, expression_refinement, test_refinement}
+use Rattle.abc_meaning.specs.Bindings.{Bindings, bindings, at_fields, bind, held}
+use Rattle.abc_meaning.specs.Calls.{then_on, entering, returned, reported, with_bindings, suite, body_over, entered, called, function_call, predicate_call, refined, expression_refinement}
 use Rattle.abc_meaning.specs.Value.{values, piece, pieces, Wording, filled, fillers, Filling, paired, entries, Tabling, name_value, there, value_with}
 use Rattle.abc_meaning.specs.Holds.{decides, if_decided, compared, chain, quantified, over_train, refinement_test, holds_with}
 use Rattle.abc_meaning.specs.Changing.{puts, inserts, removes, deletes, parts, put, delete, change_list}
-use Rattle.abc_meaning.specs.Addresses.{stepped, onto, gathered, together, whole, address_list, address_with, address_within, address as address_run}
-use Rattle.abc_meaning.specs.Reading.{take_line, raw_value, literal_value}
+use Rattle.abc_meaning.specs.Addresses.{stepped, gathered, together, whole, address_list, address_with, address_within, address as address_run}
 use Rattle.abc_meaning.specs.Actuals.{located, name_actual, gather, Gathered, actual_with, actuals}
-use Rattle.abc_meaning.specs.PutBack.{Entry, entry, named, with_formal, put_back, leaving, body_with, called_with, command_call, command_refinement}
+use Rattle.abc_meaning.specs.PutBack.{Entry, entry, named, with_formal, leaving, body_with, command_call, command_refinement}
 use Rattle.abc_meaning.specs.Acts.{newlines, say, checked, written, succeeds, select, turns, each, each_of, acts_with}
 use Rattle.abc_meaning.specs.Meaning.{meaning}
-use Rattle.abc_meaning.specs.Regular.{OfActual, OfFlow, OfKeys, AreValues, HasKeys, HasValues, AreNumbers, IsNumberedScope, EachGivesValues}
-use Rattle.abc_meaning.specs.Written.{numbers_in, numbers_in_test, numbers_in_action, numbers_in_part, numbers_in_parts}
+use Rattle.abc_meaning.specs.Regular.{OfActual, OfFlow, AreValues, HasKeys, AreNumbers, IsNumberedScope, EachGivesValues}
+use Rattle.abc_meaning.specs.Written.{numbers_in, numbers_in_part, numbers_in_parts}
 use Rattle.abc_meaning.proofs.Opened.{together as both_all, one_more, AllParts}
-use Rattle.abc_sound.proofs.Leaving.{Sure, sure, Any, Fine, Leaves, after_leaves, given, halted, next, surely, seeing, becoming, passed, either, weaker, sooner, later}
+use Rattle.abc_sound.proofs.Leaving.{Sure, sure, Any, Fine, after_leaves, given, halted, next, surely, seeing, passed, either, weaker, later}
 use Rattle.abc_sound.proofs.Typed.{both_true, HaveAll, HavePairs, typed_has_type, train_has, relation_taken, membership_taken}
-use Rattle.abc_sound.proofs.Changes.{Has, AddressFits, AddressesFit, one_step, parts_fit}
+use Rattle.abc_sound.proofs.Changes.{Has, AddressFits, parts_fit}
 use Rattle.abc_sound.proofs.States.{IsTyped, IsReady, Kept, kept_of, AreTargets, IsNamed, is_named, look_typed, put_in, name_put, numbers_same, spends, says, takes, regularly}
-use Rattle.abc_sound.proofs.Expressions.{Layer, names_for, every_of, NodeFits, NodesFit, IsOne, name_one, fields_one, Elements, OkExpr, OkExprs, OkSome, OkPiece, OkFill, OkPair, OkCall, OkLayer, ok_opened}
+use Rattle.abc_sound.proofs.Expressions.{Layer, names_for, every_of, NodeFits, IsOne, name_one, fields_one, Elements, OkExpr, OkExprs, OkSome, OkPiece, OkFill, OkPair, OkLayer, ok_opened}
 use Rattle.abc_sound.proofs.Testing.{BoundFits, BoundsFit, see_bound, bound_seen_is, OkTest, OkLink, OkTestLayer, ok_test_opened}
-use Rattle.abc_sound.proofs.Commands.{Keeps, OkAction, OkSuite, OkAddress, OkExample, OkWay, OkNode, ok_action_opened}
+use Rattle.abc_sound.proofs.Commands.{Keeps, OkAction, OkSuite, OkAddress, OkWay, OkNode, ok_action_opened}
 use Rattle.abc_sound.proofs.Literals.{literal_only}
 use Rattle.abc_sound.proofs.Values.{IsA, AreEach, one_each_more, each_have, characters_together, outer_tested, ends, gave, composed_typed, there_typed, selected_typed, one_applied, two_applied, worded_typed, list_displayed, table_displayed, raw_typed, literal_typed, range_elements, ranged, elements_are}
-use Rattle.abc_sound.proofs.Binding.{had_is, IsBinding, AreBindings, AreBound, IsTypedName, bound_binds, formals_bind, bound_named, alone_named}
+use Rattle.abc_sound.proofs.Binding.{had_is, AreBindings, AreBound, bound_binds, formals_bind, bound_named}
 use Rattle.abc_sound.proofs.Addressing.{IsAddress, AreAddresses, one_address_more, stepped_fits, together_fits, step_if, AreIf, one_if_more, together_if, is_address_layer, address_layer_is, height_layer, height_layer_is, parts_below}
 use Rattle.abc_sound.proofs.Putting.{puts_value, deletes_all, changes_list, FitsBack, puts_back, binds_names, IsHeld, are_held, has_again}
 

@@ -1,6 +1,6 @@
 -- What is known where a node stands: in an accepted command, and in a unit at a signature.
 use Rattle.std.proofs.Common.{◌≡◌, ◌∙◌, refl, ap, sym, subst, ℕ, zero, suc, Bool, true, false, not, ◌&&◌, List, [], ◌∷◌, ◌++◌, map, length, Option, Some, None, if◌then◌else◌, is_some, arith}
-use Rattle.std.specs.Prelude.{◌<◌, ◌≤◌, ◌≢◌, ◌+◌, ◌==◌, ◌||◌, nat_le, nat_lt, cond, slice_get, slice_index_or, get_or, option_and_then, option_map, unwrap_or, IsSome, position}
+use Rattle.std.specs.Prelude.{◌<◌, ◌≤◌, ◌≢◌, ◌+◌, ◌==◌, ◌||◌, nat_le, nat_lt, cond, slice_get, slice_index_or, get_or, option_and_then, option_map, unwrap_or}
 use Rattle.std.specs.List.{AllByRecursion, Contains, list_all, list_any, filter, prefix_len}
 use Rattle.std.proofs.lemmas.Bool.{and_parts, or_parts}
 use Rattle.std.proofs.lemmas.List.Kept.{AllPairs-cons}
@@ -14,8 +14,8 @@ use Rattle.abc_num.proofs.Texts.{text_eq-Decides}
 use Rattle.abc_tree.specs.Calls.{calls_in_unit, calls_in_action, calls_in_refinement}
 use Rattle.abc_tree.specs.Lined.{Lined}
 use Rattle.abc_tree.specs.Lists.{flat}
-use Rattle.abc_tree.specs.Regular.{Names, is_there, is_value_kind, is_test_kind, is_call, is_command, is_regular_template}
-use Rattle.abc_tree.specs.RegularItems.{Part, Parts, line, value, address, example, test, bound, quits, returns, reports, calls, refinement, early_else, here, parts_of, suite_parts, parts_of_unit, Exits, exits_of, refinement_exits, is_regular_part, are_regular_parts, line_of, lines_of, bounds_of, is_among, command_names, names_of, name_at, refinement_by, refinement_named, is_one_of, are_different, is_alone, has_plain_formals, is_command_refinement, command_refinements, has_regular_bodies, has_regular_lines, shared_names, do_not_fall, is_regular_unit, is_regular_command}
+use Rattle.abc_tree.specs.Regular.{is_there, is_value_kind, is_test_kind, is_call, is_command, is_regular_template}
+use Rattle.abc_tree.specs.RegularItems.{Part, Parts, line, value, address, example, test, bound, quits, returns, reports, calls, refinement, early_else, here, parts_of, suite_parts, parts_of_unit, Exits, exits_of, refinement_exits, is_regular_part, are_regular_parts, line_of, lines_of, bounds_of, is_among, command_names, names_of, name_at, refinement_by, refinement_named, is_one_of, are_different, is_alone, has_plain_formals, is_command_refinement, command_refinements, shared_names, do_not_fall}
 use Rattle.abc_tree.specs.declared.formulas.NameId.{NameId}
 use Rattle.abc_tree.specs.declared.formulas.Bound.{Bound, out-Bound}
 use Rattle.abc_tree.specs.declared.templates.Template.{Template}
@@ -28,19 +28,18 @@ use Rattle.abc_tree.specs.declared.commands.RefinementKind.{RefinementKind}
 use Rattle.abc_tree.specs.declared.commands.RefinementKind.TheVariants as refines
 use Rattle.abc_tree.specs.declared.commands.Unit.{Unit as Routine}
 use Rattle.abc_tree.specs.Units.{unit_of}
-use Rattle.abc_tree.specs.Templates.{template_text}
-use Rattle.abc_tree.proofs.Opening.{RegularCommand, open_command, RegularUnit, open_unit}
+use Rattle.abc_tree.proofs.Opening.{open_command, RegularUnit, open_unit}
 use Rattle.abc_tree.proofs.OneTemplate.{one_template}
 use Rattle.abc_ground.specs.Seen.{Node, leaf, name as name_rule, result, name_place, place_in, seen_action, seen_refinement, seen_unit, seen_command}
 use Rattle.abc_ground.specs.Fits.{Signature, Typing, IsHad, RuleFits}
 use Rattle.abc_ground.specs.Calls.{any_allowed}
 use Rattle.abc_ground.specs.Items.{UnitFits, CommandFits}
-use Rattle.abc_ground.specs.Groups.{Cut, whole, cut_of}
-use Rattle.abc_meaning.specs.Here.{Scope, in_command, in_unit, target_at, is_target, names_in, refinement_at, refinement_named as named_in}
+use Rattle.abc_ground.specs.Groups.{whole, cut_of}
+use Rattle.abc_meaning.specs.Here.{Scope, in_command, in_unit, target_at, refinement_at, refinement_named as named_in}
 use Rattle.abc_meaning.specs.Laws.{lines_in}
-use Rattle.abc_meaning.specs.Regular.{AreNumbers, IsNumbered}
-use Rattle.abc_meaning.specs.Written.{numbers_in_part, numbers_in_parts, numbers_in_action}
-use Rattle.abc_meaning.proofs.Opened.{front, behind, each_of_flat, AllParts, InAction, InSuite, in_suite}
+use Rattle.abc_meaning.specs.Regular.{AreNumbers}
+use Rattle.abc_meaning.specs.Written.{numbers_in_part, numbers_in_parts}
+use Rattle.abc_meaning.proofs.Opened.{front, behind, each_of_flat, AllParts, in_suite}
 use Rattle.abc_sound.specs.Checked.{IsReadUnit, IsReadCommand, EndsBy, ReachesNoMissing}
 use Rattle.abc_sound.proofs.Leaving.{Sure, sure, then_sure}
 use Rattle.abc_sound.proofs.Expressions.{names_for, NodeFits}

@@ -1,5 +1,5 @@
 -- That a value has a type is shown where it can't fail.
-use Rattle.std.proofs.Common.{◌≡◌, ◌∙◌, refl, ap, sym, subst, List, [], ◌∷◌, ◌⊎◌, inl, inr, Option, Some, None}
+use Rattle.std.proofs.Common.{◌≡◌, ◌∙◌, refl, ap, sym, subst, List, [], ◌∷◌, inl, inr}
 use Rattle.abc_num.specs.declared.types.Ground.{Ground, out-Ground}
 use Rattle.abc_num.specs.declared.types.Ground.TheOpen.{Ground-F}
 use Rattle.abc_num.specs.declared.types.Ground.TheVariants as type

@@ -1,5 +1,5 @@
 -- States whose values have the types of their names, and what keeps them so.
-use Rattle.std.proofs.Common.{◌≡◌, ◌∙◌, refl, ap, sym, subst, ℕ, zero, suc, Bool, true, false, List, [], ◌∷◌, ◌++◌, map, Option, Some, None, if◌then◌else◌}
+use Rattle.std.proofs.Common.{◌≡◌, ◌∙◌, refl, ap, sym, subst, ℕ, zero, suc, Bool, true, false, List, [], ◌∷◌, map, Option, Some, None, if◌then◌else◌}
 use Rattle.std.specs.Prelude.{◌+◌, slice_get, cond, ◌==◌, length, nat_lt}
 use Rattle.std.specs.List.{AllByRecursion}
 use Rattle.std.specs.Option.{IfSome}
@@ -16,15 +16,15 @@ use Rattle.abc_num.specs.Text.{text_cmp}
 use Rattle.abc_value.specs.Tree.{Tree}
 use Rattle.abc_value.specs.Regular.{IsRegular}
 use Rattle.abc_value.specs.Types.{has}
-use Rattle.abc_frames.specs.Maps.{Targets, Frame, AreRegular, value_of, with_value, without, value_at, with_value_at, without_at}
+use Rattle.abc_frames.specs.Maps.{Targets, Frame, value_of, with_value, value_at, with_value_at}
 use Rattle.abc_frames.proofs.Merging.{texts_same}
 use Rattle.abc_meaning.specs.State.{Address, Formal, State, gives, stops, Run, Got}
 use Rattle.abc_meaning.specs.Here.{Here, Scope, target_at, look, value_in, assign, assign_in, spend, spend_of}
-use Rattle.abc_meaning.specs.Changing.{formal_named, marked}
+use Rattle.abc_meaning.specs.Changing.{marked}
 use Rattle.abc_meaning.specs.Reading.{take_line, taken}
 use Rattle.abc_meaning.specs.Acts.{say, say_unless}
-use Rattle.abc_meaning.specs.Regular.{AreValues, HasKeys, IsShort, HasValues, Leaves as Left}
-use Rattle.abc_sound.proofs.Leaving.{Fine, Leaves, Sure, sure, Any}
+use Rattle.abc_meaning.specs.Regular.{AreValues, IsShort, HasValues, Leaves as Left}
+use Rattle.abc_sound.proofs.Leaving.{Fine, Leaves, sure, Any}
 use Rattle.abc_sound.proofs.Changes.{Has}
 
 -- ---- maps: what holds of each key with its value

@@ -1,5 +1,5 @@
 -- What fits, fits part by part: names that are bound, and tests.
-use Rattle.std.proofs.Common.{◌≡◌, ◌∙◌, refl, ap, sym, subst, ℕ, Bool, true, false, ◌&&◌, List, [], ◌∷◌, ◌++◌, map, length, Option, Some, None, if◌then◌else◌}
+use Rattle.std.proofs.Common.{◌≡◌, ◌∙◌, refl, ap, sym, subst, Bool, true, false, ◌&&◌, List, [], ◌∷◌, ◌++◌, map, length, Option, Some, None, if◌then◌else◌}
 use Rattle.std.specs.List.{AllByRecursion}
 use Rattle.std.proofs.lemmas.Bool.{and_parts}
 use Rattle.std.proofs.lemmas.List.{append-nil}
@@ -22,11 +22,11 @@ use Rattle.abc_tree.specs.declared.formulas.Test.TheOpen.{Test-F}
 use Rattle.abc_tree.specs.declared.formulas.Test.TheViews.{roll-out-Test}
 use Rattle.abc_tree.specs.declared.formulas.Test.TheFolds.{fold-roll-Test}
 use Rattle.abc_tree.specs.declared.operations.Op.{Op}
-use Rattle.abc_ground.specs.Seen.{Rule, name, fields, one_type, any, train, test_row, Node, Nodes, node, call, no_nodes, more, nodes, leaf, over, over_two, call_of, bound_seen, seen_bound, test_seen, seen_test, seen}
-use Rattle.abc_ground.specs.Fits.{Signature, Typing, AreAll, AreFields, TestFits, RuleFits, IsAny, IsGiven, CallFits, fits, each_fits}
+use Rattle.abc_ground.specs.Seen.{Rule, name, fields, one_type, any, train, test_row, Node, Nodes, node, call, no_nodes, more, nodes, over, over_two, call_of, bound_seen, seen_bound, test_seen, seen_test, seen}
+use Rattle.abc_ground.specs.Fits.{Signature, Typing, AreAll, TestFits, RuleFits, IsAny, IsGiven, CallFits, fits}
 use Rattle.abc_meaning.specs.Here.{Scope}
 use Rattle.abc_meaning.proofs.Opened.{front, behind, InExpr, InTest, InTestLayer, in_test}
-use Rattle.abc_sound.proofs.Expressions.{names_for, every_of, NodeFits, NodesFit, ExprFits, IsOne, name_one, fields_one, had_by, expr_one, two_exprs, each_of_nodes, split_all, Elements, of_element, call_fits, OkExpr, OkCall, ok_call}
+use Rattle.abc_sound.proofs.Expressions.{names_for, every_of, NodeFits, NodesFit, ExprFits, IsOne, name_one, fields_one, expr_one, two_exprs, each_of_nodes, split_all, Elements, of_element, call_fits, OkExpr, OkCall, ok_call}
 
 -- ---- names that are bound
 

@@ -1,29 +1,28 @@
 -- What is made of values of known types has its type.
-use Rattle.std.proofs.Common.{◌≡◌, ◌∙◌, refl, ap, sym, subst, ℕ, zero, suc, ℤ, pos, negsuc, Bool, true, false, ◌&&◌, List, [], ◌∷◌, ◌++◌, map, length, Option, Some, None, Result, Ok, Err, ◌⊎◌, inl, inr, is_some}
-use Rattle.std.specs.Prelude.{◌+◌, ◌+ℤ◌, nat_le, cond, option_map, option_and_then, is_none}
+use Rattle.std.proofs.Common.{◌≡◌, ◌∙◌, refl, ap, sym, subst, ℕ, zero, suc, ℤ, pos, Bool, true, false, ◌&&◌, List, [], ◌∷◌, map, Option, Some, None, Result, Ok, inl, inr, is_some}
+use Rattle.std.specs.Prelude.{◌+◌, ◌+ℤ◌, cond, option_map, option_and_then, is_none}
 use Rattle.std.specs.List.{AllByRecursion, list_all}
 use Rattle.std.specs.Option.{IfSome}
 use Rattle.std.specs.Ordering.{is_eq}
 use Rattle.abc_num.specs.declared.types.Ground.{Ground}
 use Rattle.abc_num.specs.declared.types.Ground.TheVariants as type
-use Rattle.abc_num.specs.Number.{Fraction, whole_of, whole_number}
+use Rattle.abc_num.specs.Number.{Fraction, whole_of}
 use Rattle.abc_num.specs.Types.{IsTrainOf}
 use Rattle.abc_tree.specs.Roles.{is_relation}
 use Rattle.abc_tree.specs.declared.operations.Op.{Op}
 use Rattle.abc_tree.specs.declared.operations.Op.TheVariants as op
-use Rattle.abc_value.specs.declared.faults.RunFault.{RunFault}
 use Rattle.abc_value.specs.declared.faults.ValueFault.{ValueFault}
-use Rattle.abc_value.specs.Tree.{Tree, Trees, Pairs, number, text, compound, list, table, trees, pairs, listed, listed_pairs, no_trees, more, no_pairs, pair, table_of}
+use Rattle.abc_value.specs.Tree.{Tree, Trees, Pairs, number, text, compound, list, table, trees, pairs, listed, listed_pairs, no_trees, more, pair, table_of}
 use Rattle.abc_value.specs.Types.{has, each_has, all_have, pairs_have}
-use Rattle.abc_value.specs.Forms.{Form, anything, a_list, a_table, fits, Fits, both, joined, form_of, elements_form}
+use Rattle.abc_value.specs.Forms.{Form, a_list, a_table, fits, Fits, both, joined, form_of, elements_form}
 use Rattle.abc_value.specs.Order.{order}
 use Rattle.abc_value.specs.Parts.{parts_of, pairs_of}
 use Rattle.abc_value.specs.Sizes.{size_fault}
-use Rattle.abc_value.specs.Items.{elements_of, by_fault, if_small, numbers_from, characters_from, count_of, number_range, character_range, range_of}
-use Rattle.abc_value.specs.Changes.{add, in_order, with_pair, with_new, placed, associate_of}
-use Rattle.abc_value.proofs.Grounds.{list_part, key_part, associate_part, compound_part}
+use Rattle.abc_value.specs.Items.{elements_of, by_fault, if_small, numbers_from, characters_from, number_range, character_range, range_of}
+use Rattle.abc_value.specs.Changes.{add, in_order, with_new, placed, associate_of}
+use Rattle.abc_value.proofs.Grounds.{compound_part}
 use Rattle.abc_value.proofs.Joins.{number_text, number_list, number_table, text_list, text_table, compound_text, compound_list, compound_table, list_table, list_of, table_of_both, joined_fits}
-use Rattle.abc_value.proofs.Shaping.{has_form, form_has, elements_exact}
+use Rattle.abc_value.proofs.Shaping.{has_form, elements_exact}
 use Rattle.abc_predef.specs.declared.table.Letter.{Letter}
 use Rattle.abc_predef.specs.declared.table.Letter.TheVariants as letter
 use Rattle.abc_predef.specs.declared.table.Operands.{Operands}

@@ -1,6 +1,6 @@
 -- Runs that make values of other values: each gives a value of its type, where these have theirs.
-use Rattle.std.proofs.Common.{◌≡◌, ◌∙◌, refl, ap, sym, subst, ℕ, zero, suc, Bool, true, false, not, ◌&&◌, List, [], ◌∷◌, ◌++◌, map, length, Option, Some, None, Result, Ok, Err, if◌then◌else◌, is_some, append_assoc}
-use Rattle.std.specs.Prelude.{nat_le, slice_get}
+use Rattle.std.proofs.Common.{◌≡◌, refl, ap, sym, subst, ℕ, suc, true, not, ◌&&◌, List, [], ◌∷◌, ◌++◌, map, length, Option, Some, None, Result, Ok, Err, is_some}
+use Rattle.std.specs.Prelude.{nat_le}
 use Rattle.std.proofs.Common.{arith}
 use Rattle.std.proofs.lemmas.Bool.Decides.{nat_tests}
 use Rattle.std.specs.List.{AllByRecursion, list_all}
@@ -14,14 +14,13 @@ use Rattle.abc_value.specs.declared.faults.ValueFault.{ValueFault}
 use Rattle.abc_value.specs.declared.faults.RunFault.{RunFault}
 use Rattle.abc_value.specs.declared.faults.RunFault.TheVariants.{NoKey}
 use Rattle.abc_value.specs.Tree.{Tree, Trees, Pairs, number, text, compound, list, table, trees, listed, listed_pairs, no_trees, more, no_pairs, pair, table_of}
-use Rattle.abc_value.specs.Types.{has, each_has}
-use Rattle.abc_value.specs.Forms.{Form, anything, Fits, joined, form_of}
+use Rattle.abc_value.specs.Types.{has}
+use Rattle.abc_value.specs.Forms.{Form, anything, Fits, form_of}
 use Rattle.abc_value.specs.Items.{if_small, elements_of}
 use Rattle.abc_value.specs.Changes.{in_order, placed, associate_of}
 use Rattle.abc_value.specs.Parts.{parts_of, pairs_of}
 use Rattle.abc_value.specs.Printed.{outer}
 use Rattle.abc_value.specs.Regular.{IsRegular, AllRegular, AllRegularPairs}
-use Rattle.abc_value.specs.Sizes.{size_fault}
 use Rattle.abc_value.proofs.Characters.{characters-append}
 use Rattle.abc_value.proofs.Making.{text_regular}
 use Rattle.abc_value.proofs.Outers.{outer_characters}
@@ -31,12 +30,12 @@ use Rattle.abc_predef.specs.Rows.{row_of_one, row_of_two}
 use Rattle.abc_predef.proofs.Typed.{typed_parts}
 use Rattle.abc_ground.specs.Fits.{AreFields, ValueFits}
 use Rattle.abc_terms.specs.Demands.{IsNumberOrText}
-use Rattle.abc_meaning.specs.State.{State, gives, stops, Run}
+use Rattle.abc_meaning.specs.State.{State, gives, Run}
 use Rattle.abc_meaning.specs.Here.{Here}
 use Rattle.abc_meaning.specs.Fits.{has_type, have_range, fits_table, gives_value, agree}
 use Rattle.abc_meaning.specs.Value.{answer, row_answer, made, composed, applied_to_one, applied, there, selected, range, Filling, Tabling, Wording, worded, list_display, table_display}
 use Rattle.abc_meaning.specs.Reading.{raw_value, of_form, literal_value}
-use Rattle.abc_sound.proofs.Leaving.{Fine, Any, sure, given, halted, passed, either, sooner}
+use Rattle.abc_sound.proofs.Leaving.{Fine, sure, given, halted, passed, either, sooner}
 use Rattle.abc_sound.proofs.Changes.{Has}
 use Rattle.abc_sound.proofs.Literals.{IsOnly, agreed_has}
 use Rattle.abc_sound.proofs.States.{IsTyped, IsReady, Kept}

@@ -1,7 +1,7 @@
 -- What the type check promises: a command that is accepted never works on values that no types fit, and the workspace stays
 -- typable.
-use Rattle.std.specs.Prelude.{◌≡◌, ◌≢◌, ◌≤◌, ℕ, Bool, true, false, List, IsSome}
-use Rattle.std.specs.List.{Contains, AllByRecursion, list_all}
+use Rattle.std.specs.Prelude.{◌≡◌, ◌≢◌, ◌≤◌, ℕ, Bool, true, List, IsSome}
+use Rattle.std.specs.List.{Contains, AllByRecursion}
 use Rattle.abc_num.specs.declared.lines.RawLine.{RawLine}
 use Rattle.abc_num.specs.declared.types.Ground.{Ground}
 use Rattle.abc_tree.specs.Calls.{command_called_upto}

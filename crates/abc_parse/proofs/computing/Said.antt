@@ -1,6 +1,6 @@
 -- What the call answers for the rows of an item.
-use Rattle.std.proofs.Common.{◌≡◌, ◌<◌, length, ℕ, true, false, List, [], ◌∷◌, Option, Some, None, ap, sym, ◌∙◌, subst, arith}
-use Rattle.std.specs.Prelude.{All, IfOk, Result, Ok, Err, is_none, option_map, if◌then◌else◌}
+use Rattle.std.proofs.Common.{◌≡◌, ◌<◌, length, ℕ, List, [], ◌∷◌, Option, Some, None, ap, sym, ◌∙◌, subst, arith}
+use Rattle.std.specs.Prelude.{All, IfOk, Result, Ok, Err, is_none, if◌then◌else◌}
 use Rattle.std.proofs.lemmas.List.Elements.{All-tail}
 use Rattle.abc_num.specs.declared.lines.Line.{Line}
 use Rattle.abc_tree.specs.declared.commands.Item.{Item}
@@ -10,9 +10,6 @@ use Rattle.abc_outline.specs.Rows.{IsRead, IsShort, row_of, rows_of}
 use Rattle.abc_faults.specs.declared.facts.Facts.{Facts}
 use Rattle.abc_faults.specs.declared.sayings.Saying.{Saying}
 use Rattle.abc_faults.specs.declared.fault.Fault.{Fault}
-use Rattle.abc_faults.specs.declared.fault.FaultKind.{FaultKind}
-use Rattle.abc_faults.specs.Environments.{asked, asks_by, environment_fault}
-use Rattle.abc_faults.specs.Facts.{facts_of}
 use Rattle.abc_faults.specs.Faults.{fault_from, fault_of_rows, item_fault}
 use Rattle.abc_faults.specs.Judging.{AreFit, IsJudged}
 use Rattle.abc_faults.specs.declared.judging.Judged.{Judged}
@@ -22,40 +19,14 @@ use Rattle.abc_parse.specs.declared.fault.ItemFault.{ItemFault}
 use Rattle.abc_parse.specs.declared.fault.ItemFault.TheVariants as fault
 use Rattle.abc_parse.specs.Items.{SpellsItem}
 use Rattle.abc_parse.specs.Readings.{and_then, built, item_of, item_of_rows, says_from}
-use Rattle.abc_parse.specs.inner.Building.{Answers, AsksAlone, IsFound, SaysSpelled}
+use Rattle.abc_parse.specs.inner.Building.{Answers, IsFound, SaysSpelled}
 use Rattle.abc_parse.proofs.computing.Built.{says_all}
-use Rattle.abc_parse.proofs.computing.Computed.{computed_spelled, fault_plain, is_built, rows_plain}
+use Rattle.abc_parse.proofs.computing.Computed.{computed_spelled, is_built}
 
 pub are_fit : (lines : List Line) → All IsShort lines → All IsRead (rows_of lines) → AreFit (rows_of lines)
 are_fit [] short read = tt
 are_fit (line ∷ lines) short read =
     ((short 0 line (omega arith), read 0 (row_of line) (omega arith)), are_fit lines (All-tail IsShort line lines short) (All-tail IsRead (row_of line) (rows_of lines) read))
-
-module _ (lines : List Line) (row : Row) (rows : List Row) (targets : List (List ℕ)) where
-  abbrev pub AnswersRows : Result Item ItemFault → Type 0
-  AnswersRows = Answers (item_of_rows lines targets (row ∷ rows)) (fault_of_rows targets (row ∷ rows))
-
-  module _ (asks : asks_by row.edges ≡ true) where
-    fault_asked : fault_of_rows targets (row ∷ rows) ≡ option_map (λ kind. record { line = 1; kind = kind }) (environment_fault row)
-    fault_asked =
-        ap (λ b. if b then option_map (λ kind. record { line = 1; kind = kind }) (environment_fault row) else fault_from (facts_of targets (row ∷ rows)) [] (row ∷ rows)) asks
-
-    rows_asked : item_of_rows lines targets (row ∷ rows) ≡ Some (item.Environment (asked row))
-    rows_asked =
-        ap (λ b. if b then Some (item.Environment (asked row)) else and_then (says_from (facts_of targets (row ∷ rows)) [] (row ∷ rows)) (built (facts_of targets (row ∷ rows)) lines)) asks
-
-    pub answers_asked : (answer : Result Item ItemFault) → AsksAlone answer row → AnswersRows answer
-    answers_asked (Ok (item.Environment e)) a =
-        (fault_asked ∙ ap (option_map (λ (kind : FaultKind). record { line = 1; kind = kind })) a.0, rows_asked ∙ ap (λ e. Some (item.Environment e)) (sym a.1))
-    answers_asked (Ok (item.Command c)) a = absurd a
-    answers_asked (Ok (item.Unit u)) a = absurd a
-    answers_asked (Err (fault.At at)) a = fault_asked ∙ ap (option_map (λ (kind : FaultKind). record { line = 1; kind = kind })) a.1 ∙ ap Some (sym a.2)
-    answers_asked (Err fault.Memory) a = tt
-
-  pub answers_plain : asks_by row.edges ≡ false → (answer : Result Item ItemFault) → SaysSpelled answer (facts_of targets (row ∷ rows)) lines (row ∷ rows) → AnswersRows answer
-  answers_plain plain (Ok it) a = (fault_plain lines row rows targets plain ∙ a.0, rows_plain lines row rows targets plain ∙ a.1)
-  answers_plain plain (Err (fault.At at)) a = fault_plain lines row rows targets plain ∙ a
-  answers_plain plain (Err fault.Memory) a = tt
 
 -- rows that say something, and have no fault
 pub found_built : (facts : Facts) (all : List Line) (rows : List Row) (lines : List Saying) → 0 < length rows → AllSay facts [] rows lines → fault_from facts [] rows ≡ None → IsFound (built facts all lines)
@@ -93,11 +64,6 @@ module _ (lines : List Line) (targets : List (List ℕ)) where
   pub tree_of : (answer : Result Item ItemFault) → AnswersLines answer → IfOk answer (λ it. SpellsItem lines targets it × (item_fault lines targets ≡ None))
   tree_of (Ok it) a = computed_spelled lines targets it (item_of_lines (Some it) a.0 a.1)
   tree_of (Err x) a = tt
-
-  pub fault_of : (answer : Result Item ItemFault) → AnswersLines answer → (at : Fault) → answer ≡ Err (fault.At at) → item_fault lines targets ≡ Some at
-  fault_of (Ok it) a at e = absurd cc
-  fault_of (Err (fault.At found)) a at e = let same : found ≡ at = cc in a ∙ ap Some same
-  fault_of (Err fault.Memory) a at e = absurd cc
 
 -- the slices that the code has of them
 module _ (lines given : List Line) (rows slice : List Row) (same : given ≡ lines) (are : rows ≡ rows_of given) (at : slice ≡ rows) where

@@ -1,18 +1,10 @@
 -- Parts are taken up one after the other.
-use Rattle.std.proofs.Common.{◌≡◌, ◌<◌, ◌+◌, ℕ, List, [], ◌∷◌, ◌++◌, length, get_or, take, Option, Some, None, refl, ap, sym, ◌∙◌, append_assoc, append-nil}
+use Rattle.std.proofs.Common.{◌≡◌, ◌<◌, ◌+◌, ℕ, List, [], ◌∷◌, ◌++◌, length, get_or, take, refl, ap, sym, ◌∙◌, append_assoc, append-nil}
 use Rattle.std.proofs.lemmas.List.{take_more}
 use Rattle.std.specs.Prelude.{unwrap_or}
 use Rattle.abc_num.specs.Names.{number_of}
 use Rattle.abc_parse.specs.Items.{all_shared, numbered, shared_by}
 use Rattle.abc_faults.specs.declared.sayings.Saying.{Saying}
-use Rattle.abc_parse.specs.inner.Building.{behind_these}
-
-pub behind_none : {X : Type 0} (o : Option (List X)) → behind_these [] o ≡ o
-behind_none None = refl
-behind_none (Some ys) = refl
-
-pub behind_all : {X : Type 0} (xs : List X) → behind_these xs (Some []) ≡ Some xs
-behind_all xs = ap Some (append-nil xs)
 
 pub numbered_both : (names xs ys : List (List ℕ)) → numbered names (xs ++ ys) ≡ numbered names xs ++ numbered names ys
 numbered_both names [] ys = refl
