@@ -72,23 +72,32 @@ fn answer(rt: &HostRuntime, targets: &Names, item: &ItemLines) -> Result<(), Fau
     print_found(rt, parse_item(rt.alloc(), item, targets))
 }
 
-/// Answers the item that is whole with this line or before it. Whether the line was taken.
+/// What became of a line.
+#[derive(Clone, Copy, Debug, PartialEq, Eq)]
+enum Fate {
+    /// It was taken.
+    Taken,
+    /// It ends the item before it, and is taken when it comes again.
+    Left,
+}
+
+/// Answers the item that is whole with this line or before it.
 fn feed(
     rt: &HostRuntime,
     targets: &Names,
     splitter: &mut Splitter,
     line: &str,
-) -> Result<bool, Fault> {
+) -> Result<Fate, Fault> {
     let kept = line.len().min(MOST_LINE_BYTES);
     match splitter.feed_line(&line.as_bytes()[..kept], kept < line.len())? {
-        Fed::More => Ok(true),
+        Fed::More => Ok(Fate::Taken),
         Fed::Whole(item) => {
             answer(rt, targets, &item)?;
-            Ok(true)
+            Ok(Fate::Taken)
         }
         Fed::Before(item) => {
             answer(rt, targets, &item)?;
-            Ok(false)
+            Ok(Fate::Left)
         }
     }
 }
@@ -114,7 +123,7 @@ fn main(rt: HostRuntime) -> Result<(), Fault> {
     for line in lines {
         let line = line?;
         // The line that ends an item is taken when it comes again.
-        if !feed(&rt, &targets, &mut splitter, line.as_str())? {
+        if let Fate::Left = feed(&rt, &targets, &mut splitter, line.as_str())? {
             feed(&rt, &targets, &mut splitter, line.as_str())?;
         }
     }

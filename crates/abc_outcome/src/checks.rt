@@ -1,5 +1,5 @@
 //! The type check of an item.
-ghost use Rattle.std.specs.Prelude.{◌≡◌, ◌≤◌, ℕ, List, length, Ok, Err, None, Some, IfOk, IsTrue};
+ghost use Rattle.std.specs.Prelude.{◌≡◌, ◌≤◌, ◌↔◌, ℕ, List, length, Ok, Err, None, Some, IfOk, IsTrue};
 ghost use Rattle.abc_num.specs.declared.lines.Line.{Line};
 ghost use Rattle.abc_groups.specs.Program.{LAST_LINE};
 ghost use Rattle.abc_ground.specs.Groups.{whole};
@@ -92,7 +92,7 @@ pub(crate) fn targets_fit(
     targets: &Targets,
 ) -> Result<bool, OutOfMemory>
     requires up_to_date { IsUpToDate checker.old store.now.kept.units }
-    ensures fit { IfOk result (λ yes. IsTrue yes → IsWellTyped (with_targets store.now.kept targets.now)) }
+    ensures fit { IfOk result (λ yes. IsTrue yes ↔ IsWellTyped (with_targets store.now.kept targets.now)) }
     ensures up_to_date { IsUpToDate checker.new store.now.kept.units }
 {
     regular_templates();

@@ -65,8 +65,24 @@ fn stop_of_item(stop: ServeStop) -> SessionStop
     }
 }
 
-/// Serves the next item, if there is one, and counts its reply. False at the end of the session: its input is over, or the
-/// item quits.
+/// What the session does behind a turn.
+#[derive(Clone, Copy, Debug, PartialEq, Eq)]
+pub(crate) enum Course {
+    /// It goes on: an item was served.
+    GoesOn,
+    /// It ends: its input is over, or the item quits.
+    Ends,
+}
+
+/// What it does behind an item that was served.
+fn course_behind(quit: bool) -> Course
+    ensures goes_on { result ≡ Course.GoesOn → quit ≡ false }
+    ensures ends { result ≡ Course.Ends → quit ≡ true }
+{
+    if quit { Course::Ends } else { Course::GoesOn }
+}
+
+/// Serves the next item, if there is one, and counts its reply.
 fn turn<H: Host>(
     alloc: Global,
     store: &mut Store,
@@ -76,7 +92,7 @@ fn turn<H: Host>(
     tally: &mut Tally,
     served: &mut u64,
     steps: u64,
-) -> Result<bool, SessionStop>
+) -> Result<Course, SessionStop>
     requires sound { IsTrue store.old.sound }
     requires holds { H.tells_image → Holds (H.now host.old).image (work_of store.old) }
     requires same_count { (H.now host.old).taken ≡ reader.old.taken }
@@ -85,17 +101,17 @@ fn turn<H: Host>(
     requires up_to_date { IsUpToDate checker.old store.old.kept.units }
     requires countable { tally.old.items ≤ served.old }
 
-    ensures goes_on { (types : Told) → AreToldAt types store.old.bounds steps (place_at served.old (work_of store.old) reader.old (H.now host.old)) 1 → H.tells_input → result ≡ Ok true → WentOn types store.old.bounds steps H.tells_said
+    ensures goes_on { (types : Told) → AreToldAt types store.old.bounds steps (place_at served.old (work_of store.old) reader.old (H.now host.old)) 1 → H.tells_input → result ≡ Ok Course.GoesOn → WentOn types store.old.bounds steps H.tells_said
         (place_at served.old (work_of store.old) reader.old (H.now host.old)) (place_at served.new (work_of store.new) reader.new (H.now host.new)) }
     ensures there { H.tells_input → OnOk result (AreThere store.old.bounds steps (place_at served.old (work_of store.old) reader.old (H.now host.old)) 1) }
-    ensures counts_one { result ≡ Ok true → served.new ≡ served.old + 1 }
-    ensures ends { (types : Told) → AreToldAt types store.old.bounds steps (place_at served.old (work_of store.old) reader.old (H.now host.old)) 1 → H.tells_input → result ≡ Ok false → Ended types store.old.bounds steps H.tells_said
+    ensures counts_one { result ≡ Ok Course.GoesOn → served.new ≡ served.old + 1 }
+    ensures ends { (types : Told) → AreToldAt types store.old.bounds steps (place_at served.old (work_of store.old) reader.old (H.now host.old)) 1 → H.tells_input → result ≡ Ok Course.Ends → Ended types store.old.bounds steps H.tells_said
         (place_at served.old (work_of store.old) reader.old (H.now host.old)) (place_at served.new (work_of store.new) reader.new (H.now host.new)) }
 
     // What is counted with the replies that are left stays, and at the end none is left.
-    ensures tallied { (types : Told) → AreToldAt types store.old.bounds steps (place_at served.old (work_of store.old) reader.old (H.now host.old)) 1 → H.tells_input → result ≡ Ok true → counted_at types store.old.bounds steps (place_at served.old (work_of store.old) reader.old (H.now host.old)) tally.old
+    ensures tallied { (types : Told) → AreToldAt types store.old.bounds steps (place_at served.old (work_of store.old) reader.old (H.now host.old)) 1 → H.tells_input → result ≡ Ok Course.GoesOn → counted_at types store.old.bounds steps (place_at served.old (work_of store.old) reader.old (H.now host.old)) tally.old
         ≡ counted_at types store.old.bounds steps (place_at served.new (work_of store.new) reader.new (H.now host.new)) tally.new }
-    ensures tallied_whole { (types : Told) → AreToldAt types store.old.bounds steps (place_at served.old (work_of store.old) reader.old (H.now host.old)) 1 → H.tells_input → result ≡ Ok false → counted_at types store.old.bounds steps (place_at served.old (work_of store.old) reader.old (H.now host.old)) tally.old ≡ tally.new }
+    ensures tallied_whole { (types : Told) → AreToldAt types store.old.bounds steps (place_at served.old (work_of store.old) reader.old (H.now host.old)) 1 → H.tells_input → result ≡ Ok Course.Ends → counted_at types store.old.bounds steps (place_at served.old (work_of store.old) reader.old (H.now host.old)) tally.old ≡ tally.new }
 
     ensures input_fault { IsErrOf result SessionStop.Input → RoseByOne (H.now host.old).input_faults (H.now host.new).input_faults }
     ensures store_fault { IsErrOf result SessionStop.StoreFault → RoseByOne (H.now host.old).store_faults (H.now host.new).store_faults }
@@ -108,7 +124,7 @@ fn turn<H: Host>(
     ensures long { IsErrOf result SessionStop.Long → reader.new.taken ≡ reader.new.bound }
     ensures most_taken { reader.new.taken ≤ reader.new.bound }
 
-    ensures falls { result ≡ Ok true → reader.old.used < reader.new.used }
+    ensures falls { result ≡ Ok Course.GoesOn → reader.old.used < reader.new.used }
     ensures counted { OnOk result (served.new ≤ reader.new.used) }
     ensures countable { OnOk result (tally.new.items ≤ served.new) }
     ensures total { H.tells_input → reader.new.taken + length (H.now host.new).left ≡ reader.old.taken + length (H.now host.old).left }
@@ -155,14 +171,14 @@ fn turn<H: Host>(
 {
     let item = match reader.next_item(host) {
         Ok(Some(item)) => item,
-        Ok(None) => return Ok(false),
+        Ok(None) => return Ok(Course::Ends),
         Err(stop) => return Err(stop_of_line(stop)),
     };
     *served += 1;
     match serve_item(
         alloc, store, checker, host, reader, &item, tally, *served, steps,
     ) {
-        Ok(done) => Ok(!done.quit),
+        Ok(done) => Ok(course_behind(done.quit)),
         Err(stop) => Err(stop_of_item(stop)),
     }
 }
@@ -230,7 +246,7 @@ pub(crate) fn serve_all<H: Host>(
     let mut checker = None;
     let mut reader = Reader::new(alloc, bound);
     let mut served = 0;
-    'items: while turn(
+    'items: while let Course::GoesOn = turn(
         alloc,
         store,
         &mut checker,

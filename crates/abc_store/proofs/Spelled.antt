@@ -18,7 +18,7 @@ use Rattle.abc_tree.specs.declared.commands.Item.TheVariants as item
 use Rattle.abc_tree.specs.declared.commands.Unit.{Unit as Routine}
 use Rattle.abc_tree.specs.declared.templates.Template.{Template}
 use Rattle.abc_meaning.specs.Regular.{IsNumbered}
-use Rattle.abc_ground.specs.Groups.{Cut, cut_of, template_of, whole, with_cut}
+use Rattle.abc_ground.specs.Groups.{Cut, template_of, whole, with_cut}
 use Rattle.abc_parse.specs.Readings.{item_of}
 use Rattle.abc_parse.specs.RegularTemplates.{CommandIsRegular, UnitIsRegular, HasRegularTemplates}
 use Rattle.abc_parse.specs.RegularTrees.{IsNumberedItem, IsRegularItem}

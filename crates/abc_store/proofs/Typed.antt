@@ -1,6 +1,6 @@
 -- Workspaces that types fit.
-use Rattle.std.proofs.Common.{◌≡◌, ◌∙◌, inl, inr, ℕ, zero, suc, arith, Bool, true, false, List, [], ◌∷◌, length, map, None, Some, refl, sym, ap, subst}
-use Rattle.std.specs.Prelude.{◌↔◌, Option, IsSome, IsTrue, Result, Ok, Err, IfOk}
+use Rattle.std.proofs.Common.{◌≡◌, ◌∙◌, inl, inr, ℕ, zero, suc, arith, Bool, true, false, List, [], ◌∷◌, length, None, Some, refl, sym, ap, subst}
+use Rattle.std.specs.Prelude.{◌↔◌, IsSome, IsTrue, Result, Ok, Err, IfOk}
 use Rattle.std.specs.List.{AllByRecursion, Contains}
 use Rattle.std.proofs.lemmas.List.Elements.{All-from_recursion}
 use Rattle.std.specs.declared.cmp.Ordering.{Ordering}

@@ -1,5 +1,5 @@
 //! What a store keeps, in memory: targets and units, and one change of them.
-ghost use Rattle.std.specs.Prelude.{◌≡◌, ◌≤◌, ◌<◌, [], true, false, None, Some, IfOk, OnOk, OnErr, option_map, length, if◌then◌else◌};
+ghost use Rattle.std.specs.Prelude.{◌≡◌, ◌≤◌, ◌<◌, [], true, false, None, Some, IfOk, OnOk, OnErr, IsErrOf, option_map, length};
 ghost use Rattle.abc_tree.specs.Templates.{template_text};
 ghost use Rattle.abc_tree.specs.Units.{AreRising as AreInOrder, with_unit};
 ghost use Rattle.abc_record.specs.Kept.{IsKept, AreKeptLines};
@@ -13,6 +13,26 @@ use abc_record::Change;
 use abc_tree::{Item, Template, TemplateKind, Unit, Units, Word};
 use std::alloc::Global;
 use std::marker::Model;
+
+/// Why a change is not made.
+#[derive(Clone, Copy, Debug, PartialEq, Eq)]
+pub(crate) enum Unmade {
+    /// Its lines spell no unit.
+    NoUnit,
+    /// There was not enough memory.
+    Memory,
+}
+
+impl From<OutOfMemory> for Unmade {
+    ghost use Rattle.std.specs.Prelude.{◌≡◌};
+    ghost use Rattle.abc_store.specs.declared.contents.Unmade.TheVariants.{Memory};
+
+    ghost from_gives = { λ _ unmade. unmade ≡ Memory };
+
+    fn from(_refused: OutOfMemory) -> Unmade {
+        Unmade::Memory
+    }
+}
 
 /// What a store keeps.
 #[derive(Drop)]
@@ -121,41 +141,47 @@ impl Contents {
         self.units.at(MOST_UNITS).is_none()
     }
 
-    /// Makes one change. False where it can't be made: its lines spell no unit. Then, and after OutOfMemory, the contents are as before.
-    pub(crate) fn make(&mut self, change: Change) -> Result<bool, OutOfMemory>
+    /// Makes one change. After an error the contents are as before.
+    ///
+    /// Errors: `NoUnit` where its lines spell no unit. `Memory`.
+    pub(crate) fn make(&mut self, change: Change) -> Result<(), Unmade>
         requires kept { IsKept change }
-        ensures made { IfOk result (λ made. changed change self.old ≡ (if made then Some self.new else None)) }
+        ensures made { OnOk result (changed change self.old ≡ Some self.new) }
+        ensures no_unit { IsErrOf result Unmade.NoUnit → changed change self.old ≡ None }
         ensures err { OnErr result (self.new ≡ self.old) }
     {
         match change {
             Change::SetTarget { name, value } => {
                 self.targets.set(name, value)?;
-                Ok(true)
+                Ok(())
             }
             Change::DropTarget { name } => {
                 let _gone = self.targets.drop_name(&name)?;
-                Ok(true)
+                Ok(())
             }
             Change::SetUnit { lines } => self.set_unit(&lines),
             Change::DropUnit { template } => {
                 self.drop_unit(template)?;
-                Ok(true)
+                Ok(())
             }
         }
     }
 
-    /// Puts the unit of these lines. False where they spell none.
-    fn set_unit(&mut self, lines: &ItemLines) -> Result<bool, OutOfMemory>
+    /// Puts the unit of these lines. After an error the contents are as before.
+    ///
+    /// Errors: `NoUnit` where they spell none. `Memory`.
+    fn set_unit(&mut self, lines: &ItemLines) -> Result<(), Unmade>
         requires kept { AreKeptLines lines.now }
-        ensures made { IfOk result (λ made. option_map (with_routine self.old) (unit_of_lines lines.now) ≡ (if made then Some self.new else None)) }
+        ensures made { OnOk result (option_map (with_routine self.old) (unit_of_lines lines.now) ≡ Some self.new) }
+        ensures no_unit { IsErrOf result Unmade.NoUnit → option_map (with_routine self.old) (unit_of_lines lines.now) ≡ None }
         ensures err { OnErr result (self.new ≡ self.old) }
     {
         match unit_of(self.alloc, lines)? {
             Some(unit) => {
                 let _old = self.units.put(unit)?;
-                Ok(true)
+                Ok(())
             }
-            None => Ok(false),
+            None => Err(Unmade::NoUnit),
         }
     }
 

@@ -6,7 +6,7 @@ ghost use Rattle.abc_store.specs.inner.Steps.{IsSpellable, IsCheckpoint};
 ghost use Rattle.abc_store.specs.inner.Later.{later_of, Stands, is_of_target, are_of_targets as are_all_of_targets};
 
 use crate::changing::make_all;
-use crate::contents::Contents;
+use crate::contents::{Contents, Unmade};
 use crate::whole::{checkpoint_of, everything};
 use abc_frames::Targets;
 use abc_num::OutOfMemory;
@@ -68,10 +68,11 @@ pub(crate) fn made_apart(
         return targets_apart(contents, changes);
     }
     let mut later = copy(alloc, contents)?;
-    if !make_all(&mut later, changes)? {
-        unreachable!()
+    match make_all(&mut later, changes) {
+        Ok(()) => Ok(Later::Whole(later)),
+        Err(Unmade::NoUnit) => unreachable!(),
+        Err(Unmade::Memory) => Err(OutOfMemory),
     }
-    Ok(Later::Whole(later))
 }
 
 /// Makes changes of targets alone.
@@ -81,10 +82,11 @@ fn targets_apart(contents: &Contents, changes: Vec<Change>) -> Result<Later, Out
     ensures { IfOk result (λ later. changed_by changes.items contents.now ≡ Some (later_of contents.now later)) }
 {
     let mut later = contents.targets_alone()?;
-    if !make_all(&mut later, changes)? {
-        unreachable!()
+    match make_all(&mut later, changes) {
+        Ok(()) => Ok(Later::Targets(later.into_targets())),
+        Err(Unmade::NoUnit) => unreachable!(),
+        Err(Unmade::Memory) => Err(OutOfMemory),
     }
-    Ok(Later::Targets(later.into_targets()))
 }
 
 /// Makes the changes where nothing but their record will be written, so that they can't be refused any more: a single one where
@@ -107,10 +109,11 @@ pub(crate) fn made_at_once(
     let Some(change) = changes.pop() else {
         return Ok(Later::Standing);
     };
-    if !contents.make(change)? {
-        unreachable!()
+    match contents.make(change) {
+        Ok(()) => Ok(Later::Standing),
+        Err(Unmade::NoUnit) => unreachable!(),
+        Err(Unmade::Memory) => Err(OutOfMemory),
     }
-    Ok(Later::Standing)
 }
 
 /// Whether no change is one of a unit.
@@ -143,8 +146,9 @@ fn copy(alloc: Global, contents: &Contents) -> Result<Contents, OutOfMemory>
 {
     let changes = everything(alloc, contents.targets(), contents.units())?;
     let mut copy = Contents::new(alloc);
-    if !make_all(&mut copy, changes)? {
-        unreachable!()
+    match make_all(&mut copy, changes) {
+        Ok(()) => Ok(copy),
+        Err(Unmade::NoUnit) => unreachable!(),
+        Err(Unmade::Memory) => Err(OutOfMemory),
     }
-    Ok(copy)
 }

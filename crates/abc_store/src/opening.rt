@@ -1,12 +1,12 @@
 //! What the records of an image make, and whether types fit it.
-ghost use Rattle.std.specs.Prelude.{◌≡◌, ◌↔◌, ◌+◌, ◌-◌, ◌^◌, ℕ, min, true, false, Ok, Err, IfOk, IsErrOf, IsTrue};
+ghost use Rattle.std.specs.Prelude.{◌≡◌, ◌↔◌, ◌+◌, ◌-◌, ◌^◌, ℕ, min, Ok, Err, IfOk, OnOk, IsErrOf, IsTrue};
 ghost use Rattle.abc_journal.specs.Journal.{IfNotAStore};
 ghost use Rattle.abc_store.specs.Workspace.{Workspace, empty, AreKeptUnits, IsWellTyped};
 ghost use Rattle.abc_store.specs.Opening.{LeadsTo, LeadsNowhere, Make, ComeTo};
 ghost use Rattle.abc_store.specs.inner.Steps.{IsSpellable};
 
 use crate::changing::make_all;
-use crate::contents::Contents;
+use crate::contents::{Contents, Unmade};
 use abc_check::Checker;
 use abc_frames::Targets;
 use abc_journal::BeginFault;
@@ -16,6 +16,15 @@ use abc_parse::regular_templates;
 use abc_record::{RecordFault, read_changes};
 use abc_tree::{Units, one_template};
 use std::alloc::Global;
+
+/// Why a record is not followed.
+#[derive(Clone, Copy, Debug, PartialEq, Eq)]
+enum Unfollowed {
+    /// It spells no changes that can be made, or more is there after them than a workspace may have.
+    Nowhere,
+    /// There was not enough memory.
+    Memory,
+}
 
 /// The contents after the records of these payloads, where types fit them. The first record has its gate at `start`.
 ///
@@ -61,10 +70,11 @@ fn replay(alloc: Global, start: u64, payloads: &[Text]) -> Result<Contents, Begi
     let mut contents = Contents::new(alloc);
     let mut gate = start;
     for payload in payloads {
-        if !follow(alloc, &mut contents, payload.bytes())? {
-            return Err(BeginFault::NotAStore { at: gate });
+        match follow(alloc, &mut contents, payload.bytes()) {
+            Ok(()) => gate = gate_behind(gate, payload.bytes().len()),
+            Err(Unfollowed::Nowhere) => return Err(BeginFault::NotAStore { at: gate }),
+            Err(Unfollowed::Memory) => return Err(BeginFault::Memory),
         }
-        gate = gate_behind(gate, payload.bytes().len());
     }
     Ok(contents)
 }
@@ -77,19 +87,22 @@ fn gate_behind(gate: u64, bytes: usize) -> u64
         .saturating_add(bytes as u64)
 }
 
-/// Makes the changes of a record. False where it spells none that can be made, or more is there after it than a workspace may
-/// have.
-fn follow(alloc: Global, contents: &mut Contents, payload: &[u8]) -> Result<bool, OutOfMemory>
-    ensures leads { IfOk result (λ leads. leads ≡ true → LeadsTo payload.now contents.old contents.new) }
-    ensures nowhere { IfOk result (λ leads. leads ≡ false → LeadsNowhere payload.now contents.old) }
+/// Makes the changes of a record. After an error the contents are of no use.
+///
+/// Errors: `Nowhere` where it spells none that can be made, or more is there after them than a workspace may have. `Memory`.
+fn follow(alloc: Global, contents: &mut Contents, payload: &[u8]) -> Result<(), Unfollowed>
+    ensures leads { OnOk result (LeadsTo payload.now contents.old contents.new) }
+    ensures nowhere { IsErrOf result Unfollowed.Nowhere → LeadsNowhere payload.now contents.old }
 {
     let changes = match read_changes(alloc, payload) {
         Ok(changes) => changes,
-        Err(RecordFault::BadRecord { .. }) => return Ok(false),
-        Err(RecordFault::Memory) => return Err(OutOfMemory),
+        Err(RecordFault::BadRecord { .. }) => return Err(Unfollowed::Nowhere),
+        Err(RecordFault::Memory) => return Err(Unfollowed::Memory),
     };
-    if !make_all(contents, changes)? {
-        return Ok(false);
+    match make_all(contents, changes) {
+        Ok(()) if contents.is_within_limits() => Ok(()),
+        Ok(()) => Err(Unfollowed::Nowhere),
+        Err(Unmade::NoUnit) => Err(Unfollowed::Nowhere),
+        Err(Unmade::Memory) => Err(Unfollowed::Memory),
     }
-    Ok(contents.is_within_limits())
 }

@@ -5,6 +5,7 @@ ghost use Rattle.abc_outside.specs.Stop.{Leaves, IsQuiet};
 ghost use Rattle.abc_tree.specs.Units.{AreRising as AreInOrder};
 ghost use Rattle.abc_frames.specs.Maps.{AreRegular};
 ghost use Rattle.abc_num.specs.declared.limits.TheConstants.{MOST_UNITS};
+ghost use Rattle.abc_journal.specs.declared.format.TheConstants.{FRESH_BYTES};
 ghost use Rattle.abc_journal.specs.Image.{settled_image};
 ghost use Rattle.abc_journal.specs.Journal.{BeginsQuiet, IfNotAStore, IsNotAStore};
 ghost use Rattle.abc_record.specs.Kept.{AreKept};
@@ -59,8 +60,8 @@ impl Model for Store {
 }
 
 impl Store {
-    /// Opens the store. An image of at most 65 bytes is made fresh; a longer one is only read, each record once, and then its
-    /// workspace is checked: one that no types fit is wrong at the start of its region.
+    /// Opens the store. An image of at most 65 bytes is made fresh; a longer one is only read, whatever the answer, each record
+    /// once, and then its workspace is checked: one that no types fit is wrong at the start of its region.
     ///
     /// Errors: `NotAStore` with the place of what is wrong, which leaves the store as it was; `Memory`, after which an image of at
     /// most 65 bytes may have been made fresh; `StoreFault` where a call of the host failed.
@@ -77,6 +78,9 @@ impl Store {
         ensures refused_faultless { (IsNotAStore result ⊎ IsErrOf result BeginFault.Memory) → (H.now host.new).store_faults ≡ (H.now host.old).store_faults }
 
         ensures rest { KeepsButStore (H.now host.old) (H.now host.new) }
+        ensures long { H.tells_image → FRESH_BYTES < length (H.now host.old).image → (H.now host.new).image ≡ (H.now host.old).image }
+        ensures long_stops { H.tells_image → FRESH_BYTES < length (H.now host.old).image
+            → Leaves H.clock H.stopped host.old host.new (H.stopped host.old (H.clock host.old)) }
         ensures unchanged { H.tells_image → (at : ℕ) → Opens (H.now host.old).image (Err at) → (H.now host.new).image ≡ (H.now host.old).image }
         ensures untouched { H.tells_image → (at : ℕ) → Opens (H.now host.old).image (Err at)
             → Leaves H.clock H.stopped host.old host.new (H.stopped host.old (H.clock host.old)) }

@@ -112,21 +112,30 @@ fn answer(rt: &HostRuntime, workspace: &mut Workspace, item: &ItemLines) -> Resu
     answer_found(rt, workspace, found)
 }
 
-/// Answers the item that is whole with this line or before it. Whether the line was taken.
-fn feed(rt: &HostRuntime, workspace: &mut Workspace, line: &str) -> Result<bool, Fault> {
+/// What became of a line.
+#[derive(Clone, Copy, Debug, PartialEq, Eq)]
+enum Fate {
+    /// It was taken.
+    Taken,
+    /// It ends the item before it, and is taken when it comes again.
+    Left,
+}
+
+/// Answers the item that is whole with this line or before it.
+fn feed(rt: &HostRuntime, workspace: &mut Workspace, line: &str) -> Result<Fate, Fault> {
     let kept = line.len().min(MOST_LINE_BYTES);
     match workspace
         .splitter
         .feed_line(&line.as_bytes()[..kept], kept < line.len())?
     {
-        Fed::More => Ok(true),
+        Fed::More => Ok(Fate::Taken),
         Fed::Whole(item) => {
             answer(rt, workspace, &item)?;
-            Ok(true)
+            Ok(Fate::Taken)
         }
         Fed::Before(item) => {
             answer(rt, workspace, &item)?;
-            Ok(false)
+            Ok(Fate::Left)
         }
     }
 }
@@ -162,7 +171,7 @@ fn set_target(rt: &HostRuntime, workspace: &mut Workspace, row: &str) -> Result<
 fn take(rt: &HostRuntime, workspace: &mut Workspace, line: &str) -> Result<(), Fault> {
     let Some(row) = line.strip_prefix('!') else {
         // The line that ends an item is taken when it comes again.
-        if !feed(rt, workspace, line)? {
+        if let Fate::Left = feed(rt, workspace, line)? {
             feed(rt, workspace, line)?;
         }
         return Ok(());

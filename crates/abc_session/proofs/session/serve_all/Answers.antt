@@ -1,5 +1,5 @@
 use Rattle.std.proofs.Common.{rules, ◌≡◌, ◌∙◌, suc, ◌+◌, length, refl, sym, ap, subst, arith}
-use Rattle.std.specs.Prelude.{false, Ok}
+use Rattle.std.specs.Prelude.{Ok}
 use Rattle.std.proofs.lemmas.Bool.{false_from_ne_true}
 use Rattle.abc_journal.specs.declared.layout.Bounds.{Bounds}
 use Rattle.abc_outside.specs.Stop.{Leaves, IsQuiet}
@@ -10,6 +10,7 @@ use Rattle.abc_reader.specs.Asking.{Asked, AskedRising, next_ask}
 use Rattle.abc_make.specs.Summary.{Count}
 use Rattle.abc_store.specs.Commit.{Work}
 use Rattle.abc_store.specs.View.{work_of}
+use Rattle.abc_session.specs.declared.session.Course.TheVariants.{Ends}
 use Rattle.abc_session.specs.Session.{Told, session_of}
 use Rattle.abc_session.specs.Told.{WithTold}
 use Rattle.abc_session.specs.Serving.{OpensTo, IsSessionPoint}
@@ -145,9 +146,9 @@ abbrev EndsSo : (g : Over) → After-turn g → Told → Type 0
 EndsSo g c types = Ended types (limit g c) c.args.steps g.H.Host.tells_said (here g c) (place_at c.turn.new.served (work_of c.turn.new.store) c.turn.new.reader (g.H.Host.now c.turn.new.host))
 
 turn_ended : (g : Over) (c : After-turn g) → g.H.Host.tells_input
-    → ((types : Told) → AreToldAt types c.items.store.bounds c.args.steps (here g c) 1 → g.H.Host.tells_input → c.turn.result ≡ Ok false
+    → ((types : Told) → AreToldAt types c.items.store.bounds c.args.steps (here g c) 1 → g.H.Host.tells_input → c.turn.result ≡ Ok Ends
     → Ended types c.items.store.bounds c.args.steps g.H.Host.tells_said (here g c) (place_at c.turn.new.served (work_of c.turn.new.store) c.turn.new.reader (g.H.Host.now c.turn.new.host)))
-    → AreThere (limit g c) c.args.steps (here g c) 1 → c.turn.result ≡ Ok false → WithNext (limit g c) c.args.steps (here g c) (EndsSo g c)
+    → AreThere (limit g c) c.args.steps (here g c) 1 → c.turn.result ≡ Ok Ends → WithNext (limit g c) c.args.steps (here g c) (EndsSo g c)
 turn_ended g c told ends there off = by_line there (λ types line. ends_so g c types (ends types (told_turn g c types line) told off))
 
 pub items-init : goal.items-init

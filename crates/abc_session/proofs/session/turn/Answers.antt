@@ -18,6 +18,8 @@ use Rattle.abc_session.proofs.Told.{none_told, line_of, one_told}
 use Rattle.abc_session.specs.Serving.{OpensTo, IsSessionPoint}
 use Rattle.abc_session.specs.Place.{Place, place_at, input_ends, lines_left, session_at, AreToldAt, AreThere, WithNext, by_any, by_line, WantsInput, AsksInput}
 use Rattle.abc_session.specs.declared.serve.ServeStop.TheVariants as item
+use Rattle.abc_session.specs.declared.session.Course.{Course}
+use Rattle.abc_session.specs.declared.session.Course.TheVariants.{GoesOn, Ends}
 use Rattle.abc_session.specs.declared.session.SessionStop.{SessionStop}
 use Rattle.abc_session.specs.declared.session.SessionStop.TheVariants as session
 use Rattle.abc_session.proofs.Stops.{stopped_by, stopped_either, stopped_three}
@@ -181,28 +183,23 @@ returns-in-Ok-None-clause-ends g c types are told _ =
     (place_at c.args.served.now (work_of c.args.store.now) c.next_item.new.self (g.H.Host.now c.next_item.new.host)) ((rw c.in-Ok-None.field-0-is at c.in-Ok-None.ensures.item) told)
     (c.next_item.ensures.stands.at_end told) refl c.next_item.ensures.reads_on.rest.said
 
-abbrev answers : Bool → Result Bool SessionStop
-answers b = Ok b
+abbrev answers : Course → Result Course SessionStop
+answers course = Ok course
 
-off : (b : Bool) → answers (not b) ≡ answers true → b ≡ false
-off true is = absurd (cc is)
-off false is = refl
-
-on : (b : Bool) → answers (not b) ≡ answers false → b ≡ true
-on true is = refl
-on false is = absurd (cc is)
+answered_so : (a b : Course) → answers a ≡ answers b → a ≡ b
+answered_so a b is = cc
 
 pub returns-in-Ok-clause-goes_on : goal.returns-in-Ok-clause-goes_on
 returns-in-Ok-clause-goes_on g c types are told is =
     let at = (goal.at.returns-in-Ok-clause-goes_on g c).After-serve_item in
     past_item types c.args.store.now.bounds c.args.steps g.H.Host.tells_said (old g at) (mid g at) (new g at) c.in-Ok-Some.item (taken g at told) (next_number c.args.served.now) refl c.next_item.ensures.reads_on.rest.said
-    c.args.tally.now c.serve_item.new.tally c.in-Ok.done.quit (c.in-Ok.ensures.served (types (c.args.served.now + 1)) (line_here g at types told are) told) c.serve_item.ensures.reads.stays_ended refl (off c.in-Ok.done.quit is) (line_of types c.args.store.now.bounds c.args.steps (old g at) c.in-Ok-Some.item (lines_left (mid g at)) (first_of g at told) are)
+    c.args.tally.now c.serve_item.new.tally c.in-Ok.done.quit (c.in-Ok.ensures.served (types (c.args.served.now + 1)) (line_here g at types told are) told) c.serve_item.ensures.reads.stays_ended refl (c.course_behind.ensures.goes_on (answered_so c.course_behind.result GoesOn is)) (line_of types c.args.store.now.bounds c.args.steps (old g at) c.in-Ok-Some.item (lines_left (mid g at)) (first_of g at told) are)
 
 pub returns-in-Ok-clause-ends : goal.returns-in-Ok-clause-ends
 returns-in-Ok-clause-ends g c types are told is =
     let at = (goal.at.returns-in-Ok-clause-ends g c).After-serve_item in
     past_quit types c.args.store.now.bounds c.args.steps g.H.Host.tells_said (old g at) (mid g at) (new g at) c.in-Ok-Some.item (taken g at told) (next_number c.args.served.now) refl c.next_item.ensures.reads_on.rest.said
-    c.args.tally.now c.serve_item.new.tally c.in-Ok.done.quit (c.in-Ok.ensures.served (types (c.args.served.now + 1)) (line_here g at types told are) told) c.serve_item.ensures.reads.stays_ended (on c.in-Ok.done.quit is)
+    c.args.tally.now c.serve_item.new.tally c.in-Ok.done.quit (c.in-Ok.ensures.served (types (c.args.served.now + 1)) (line_here g at types told are) told) c.serve_item.ensures.reads.stays_ended (c.course_behind.ensures.ends (answered_so c.course_behind.result Ends is))
 
 pub returns-in-Ok-None-clause-tallied_whole : goal.returns-in-Ok-None-clause-tallied_whole
 returns-in-Ok-None-clause-tallied_whole g c types are told _ =
@@ -214,13 +211,13 @@ pub returns-in-Ok-clause-tallied : goal.returns-in-Ok-clause-tallied
 returns-in-Ok-clause-tallied g c types are told is =
     let at = (goal.at.returns-in-Ok-clause-tallied g c).After-serve_item in
     counts_on types c.args.store.now.bounds c.args.steps g.H.Host.tells_said (old g at) (mid g at) (new g at) c.in-Ok-Some.item (taken g at told) (next_number c.args.served.now) refl c.next_item.ensures.reads_on.rest.said
-    c.args.tally.now c.serve_item.new.tally c.in-Ok.done.quit (c.in-Ok.ensures.served (types (c.args.served.now + 1)) (line_here g at types told are) told) c.serve_item.ensures.reads.stays_ended refl (off c.in-Ok.done.quit is)
+    c.args.tally.now c.serve_item.new.tally c.in-Ok.done.quit (c.in-Ok.ensures.served (types (c.args.served.now + 1)) (line_here g at types told are) told) c.serve_item.ensures.reads.stays_ended refl (c.course_behind.ensures.goes_on (answered_so c.course_behind.result GoesOn is))
 
 pub returns-in-Ok-clause-tallied_whole : goal.returns-in-Ok-clause-tallied_whole
 returns-in-Ok-clause-tallied_whole g c types are told is =
     let at = (goal.at.returns-in-Ok-clause-tallied_whole g c).After-serve_item in
     counts_last types c.args.store.now.bounds c.args.steps g.H.Host.tells_said (old g at) (mid g at) (new g at) c.in-Ok-Some.item (taken g at told) (next_number c.args.served.now) refl c.next_item.ensures.reads_on.rest.said
-    c.args.tally.now c.serve_item.new.tally c.in-Ok.done.quit (c.in-Ok.ensures.served (types (c.args.served.now + 1)) (line_here g at types told are) told) c.serve_item.ensures.reads.stays_ended (on c.in-Ok.done.quit is)
+    c.args.tally.now c.serve_item.new.tally c.in-Ok.done.quit (c.in-Ok.ensures.served (types (c.args.served.now + 1)) (line_here g at types told are) told) c.serve_item.ensures.reads.stays_ended (c.course_behind.ensures.ends (answered_so c.course_behind.result Ends is))
 
 pub returns-in-Err-clause-wants : goal.returns-in-Err-clause-wants
 returns-in-Err-clause-wants g c told stops =

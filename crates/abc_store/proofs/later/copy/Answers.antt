@@ -23,8 +23,8 @@ unreachable-requires c =
     not_none (changed_by c.in_ok-changes.changes.items c.new-copy.result) kept none
     (made_again c.in_ok-changes.changes.items c.new-copy.result kept told c.new-copy.ensures rising regular c.units.ensures.in_order c.requires.spellable.units)
 
-pub returns : goal.returns
-returns c =
+pub returns-in-Ok : goal.returns-in-Ok
+returns-in-Ok c =
     let kept = c.args.contents.now in
     let told : c.in_ok-changes.changes.items ≡ everything kept = search rules in
     let rising : AreRising kept.targets = search rules in

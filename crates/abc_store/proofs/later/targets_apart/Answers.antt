@@ -9,8 +9,8 @@ unreachable-requires c =
     let none : changed_by c.args.changes.items c.in_ok-later.later ≡ None = search rules in
     targets_change c.args.changes.items c.in_ok-later.later c.requires.targets none
 
-pub returns : goal.returns
-returns c =
+pub returns-in-Ok : goal.returns-in-Ok
+returns-in-Ok c =
     let kept = c.args.contents.now in
     let made : changed_by c.args.changes.items c.in_ok-later.later ≡ Some c.make_all.new.contents = search rules in
     let bare : c.in_ok-later.later ≡ record { targets = kept.targets; units = [] } = search rules in

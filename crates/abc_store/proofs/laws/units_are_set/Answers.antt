@@ -1,4 +1,4 @@
-use Rattle.std.proofs.Common.{◌≡◌, ◌∙◌, true, [], Some, sym}
+use Rattle.std.proofs.Common.{◌≡◌, ◌∙◌, true, [], sym}
 use Rattle.abc_outline.specs.Outline.{is_unit}
 use Rattle.abc_outline.specs.Rows.{rows_of}
 use Rattle.abc_tree.specs.declared.commands.Item.TheVariants as item

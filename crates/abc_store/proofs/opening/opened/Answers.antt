@@ -1,5 +1,5 @@
-use Rattle.std.proofs.Common.{rules, ◌≡◌, ℕ, true, false, sym, subst, arith}
-use Rattle.std.specs.Prelude.{◌↔◌, IsTrue}
+use Rattle.std.proofs.Common.{rules, ◌≡◌, true, false, sym, subst, arith}
+use Rattle.std.specs.Prelude.{IsTrue}
 use Rattle.abc_store.specs.Workspace.{empty, AreKeptUnits, IsWellTyped}
 use Rattle.abc_store.proofs.Images.{come_to, untyped, made_named, empty_spellable}
 use Rattle.abc_store.proofs.Typed.{tells_typed}
