@@ -7,6 +7,3 @@ mod tower;
 
 pub use chunks::Chunks;
 pub use search::Seek;
-
-#[cfg(test)]
-mod tests;

@@ -6,6 +6,3 @@ mod targets;
 
 pub use frames::{Frames, KeptFrame};
 pub use targets::{Kept, TargetChange, Targets};
-
-#[cfg(test)]
-mod tests;

@@ -16,6 +16,3 @@ pub use faults::{AppendFault, BeginFault};
 pub use journal::Journal;
 pub use laws::commits_in_steps;
 pub use layout::{Bounds, Layout};
-
-#[cfg(test)]
-mod tests;

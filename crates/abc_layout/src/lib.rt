@@ -7,6 +7,3 @@ mod splitter;
 pub use abc_num::{ItemLines, Line, RawLine};
 pub use laws::whole_stays;
 pub use splitter::{Fed, Splitter};
-
-#[cfg(test)]
-mod tests;

@@ -11,6 +11,3 @@ pub use input::input_of;
 pub use laws::last_line_is_found;
 pub use summary::summary_of;
 pub use tally::Tally;
-
-#[cfg(test)]
-mod tests;

@@ -8,6 +8,3 @@ pub use laws::{
     only_places_are_marked, output_grows, steps_never_rise, stops_tell_their_line,
     values_stay_regular,
 };
-
-#[cfg(test)]
-mod tests;

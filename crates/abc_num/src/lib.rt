@@ -29,6 +29,3 @@ pub use number::{Num, NumFault};
 pub use stack::Stack;
 pub use text::Text;
 pub use types::{Ground, Grounds};
-
-#[cfg(test)]
-mod tests;

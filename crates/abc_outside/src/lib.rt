@@ -19,6 +19,3 @@ pub use lines::{LineStop, Lines};
 pub use memory::MemoryHost;
 pub use memory_lines::MemoryLines;
 pub use real::RealHost;
-
-#[cfg(test)]
-mod tests;

@@ -22,6 +22,3 @@ pub use laws::{
 pub use lookup::{predefined, row};
 pub use table::{Letter, Operands, Row, Rows, TABLE};
 pub use takes::{takes1, takes2};
-
-#[cfg(test)]
-mod tests;

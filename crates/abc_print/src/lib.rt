@@ -13,6 +13,3 @@ pub use abc_value::{PrintFault, display_of, text_of};
 pub use faults::LiteralFault;
 pub use laws::displays_read_back;
 pub use reading::read_literal_line;
-
-#[cfg(test)]
-mod tests;

@@ -11,6 +11,3 @@ mod scan;
 pub use laws::items_are_steady;
 pub use reader::Reader;
 pub use reader_lines::ReaderLines;
-
-#[cfg(test)]
-mod tests;

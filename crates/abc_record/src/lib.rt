@@ -18,6 +18,3 @@ pub use names::is_kept_name;
 pub use reading::read_changes;
 pub use size::size_of;
 pub use writing::write_changes;
-
-#[cfg(test)]
-mod tests;

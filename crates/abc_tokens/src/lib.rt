@@ -18,6 +18,3 @@ pub use laws::{
 };
 pub use scan::tokens;
 pub use shaping::{is_first, is_reserved, shape};
-
-#[cfg(test)]
-mod tests;

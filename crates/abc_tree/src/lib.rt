@@ -24,6 +24,3 @@ pub use laws::one_template;
 pub use operations::Op;
 pub use templates::{Template, TemplateKind, Word, Words};
 pub use units::Units;
-
-#[cfg(test)]
-mod tests;

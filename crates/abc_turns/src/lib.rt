@@ -4,6 +4,3 @@
 mod laws;
 
 pub use laws::{Opens, session_of_stops, sessions};
-
-#[cfg(test)]
-mod tests;

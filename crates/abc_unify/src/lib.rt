@@ -21,6 +21,3 @@ mod state;
 pub use forms::{Form, Known, VaryKind};
 pub use graph::{Graph, Mark, UnifyFault};
 pub use laws::{forms_decide, undo_model};
-
-#[cfg(test)]
-mod tests;

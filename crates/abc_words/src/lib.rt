@@ -7,6 +7,3 @@ mod requests;
 
 pub use reading::read_words;
 pub use requests::{Request, WordsFault};
-
-#[cfg(test)]
-mod tests;

@@ -1,5 +1,0 @@
-use Rattle.abc_value.specs.Parts.{IsTable}
-use Rattle.abc_frames.proofs.tests.speed.types_of_a_long_table_are_quick.Given as goal
-
-abbrev pub invariant-loop-k : goal.invariant-loop-k
-invariant-loop-k g l = IsTable l.squares
