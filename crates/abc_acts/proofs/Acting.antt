@@ -1,29 +1,23 @@
 -- Acts in steps: what is shown of each step is shown of the act.
-use Rattle.std.proofs.Common.{◌<◌, ◌+◌, length, get_or, drop, map, true, false, ◌≡◌, ℕ, List, [], ◌∷◌, ◌++◌, Option, Some, None, Result, refl, sym, subst, ap, ◌∙◌}
+use Rattle.std.proofs.Common.{◌<◌, ◌+◌, length, get_or, drop, map, true, false, ◌≡◌, ℕ, List, [], ◌∷◌, Option, Some, None, Result, refl, sym, subst, ap, ◌∙◌}
 use Rattle.abc_value.specs.Tree.{Tree}
 use Rattle.abc_value.specs.declared.faults.RunFault.TheVariants.{NoValue}
 use Rattle.abc_frames.specs.Maps.{Frame}
-use Rattle.abc_meaning.specs.State.{State, Step, Address, Formal, gives, stops, faulty, wrong, after}
+use Rattle.abc_meaning.specs.State.{State, Step, Address, Formal, stops, faulty, wrong, after}
 use Rattle.abc_meaning.specs.Here.{Here, look}
-use Rattle.abc_meaning.specs.Acts.{newlines, say}
 use Rattle.abc_meaning.specs.Changing.{Change, Part, changed, assigned, fielded, put, put_fields, put_parts}
 use Rattle.abc_meaning.specs.PutBack.{put_back, put_one}
 use Rattle.std.specs.Prelude.{is_some, unwrap_or}
-use Rattle.abc_acts.specs.declared.run.Formal.{Formal as HeldFormal}
-use Rattle.abc_acts.specs.Views.{formal_of}
+use Rattle.abc_state.specs.declared.run.Formal.{Formal as HeldFormal}
+use Rattle.abc_state.specs.Views.{formal_of}
 use Rattle.abc_acts.specs.inner.Fields.{fields_at}
 use Rattle.abc_acts.proofs.Rows.{drop_step}
-use Rattle.abc_acts.specs.declared.halt.Halt.{Halt}
-use Rattle.abc_acts.specs.declared.halt.Halt.TheVariants.{Fault, Wrong}
-use Rattle.abc_acts.specs.Agrees.{Halts, Agrees}
-use Rattle.abc_acts.specs.Words.{outer_text, write_out, leaving_to}
+use Rattle.abc_state.specs.declared.halt.Halt.{Halt}
+use Rattle.abc_state.specs.declared.halt.Halt.TheVariants.{Fault, Wrong}
+use Rattle.abc_state.specs.Agrees.{Halts, Agrees}
+use Rattle.abc_acts.specs.Words.{leaving_to}
 use Rattle.abc_acts.specs.inner.Changing.{Stops, NeedsOld, assigned_at}
 use Rattle.abc_acts.proofs.Steps.{nothing_there}
-
-pub written_out : (here : Here) (before behind : ℕ) (part : Option Tree) (text : List ℕ) (s t : State) (r : Result (Unit {0}) Halt) → outer_text here part s ≡ gives text s
-    → Agrees (λ _. tt) here.line r t (say here (newlines before ++ text ++ newlines behind) s) → Agrees (λ _. tt) here.line r t (write_out here before part behind s)
-written_out here before behind part text s t r e h =
-    subst (λ g. Agrees (λ _. tt) here.line r t (after g (λ b. say here (newlines before ++ b ++ newlines behind)))) (sym e) h
 
 pub left_so : (here : Here) (names ns : Frame) (formals fs : List Formal) (s u t : State) (r : Result (Unit {0}) Halt) → fs ≡ s.formals → ns ≡ s.names → u ≡ record s { names = names; formals = formals }
     → Agrees (λ _. tt) here.line r t (put_back here fs ns u) → Agrees (λ _. tt) here.line r t (leaving_to here names formals s)

@@ -1,14 +1,8 @@
 -- Lemmas on acts.
-pub mod Restoring
-pub mod Adding
-pub mod Rows
-pub mod Forming
-pub mod Parts
-pub mod Steps
-pub mod Lines
-pub mod Matching
-pub mod Taking
-pub mod ExampleForms
-pub mod JoinedPlaces
 pub mod Acting
-pub mod Flags
+pub mod Adding
+pub mod Matching
+pub mod Parts
+pub mod Rows
+pub mod Steps
+pub mod Taking

@@ -5,15 +5,15 @@ use Rattle.abc_value.specs.Forms.{both}
 use Rattle.abc_value.specs.declared.value.Kind.TheVariants as kind
 use Rattle.abc_value.specs.Tree.{Tree, number, text, compound, list, table, no_trees, more, trees}
 use Rattle.abc_value.specs.Parts.{kind_of, parts_of}
-use Rattle.abc_value.proofs.Rows.{trees_listed}
+use Rattle.abc_value.proofs.trees.Rows.{trees_listed}
 use Rattle.abc_meaning.specs.State.{State, Address, several, row, after, gives}
 use Rattle.abc_meaning.specs.Here.{Here}
-use Rattle.abc_acts.specs.declared.spots.Spot.{Spot}
-use Rattle.abc_acts.specs.Views.{address_of}
+use Rattle.abc_state.specs.declared.spots.Spot.{Spot}
+use Rattle.abc_state.specs.Views.{address_of}
 use Rattle.abc_acts.proofs.Rows.{drop_step, put_both}
 use Rattle.abc_meaning.specs.Changing.{fielded, fielded_all, put_parts}
 use Rattle.abc_acts.specs.inner.Fields.{have_match, fields_at, all_fields_at}
-use Rattle.abc_acts.proofs.Parts.{at_place, past_end, none_behind}
+use Rattle.abc_state.proofs.Parts.{at_place, past_end, none_behind}
 
 one_more : {X : Type 0} (o q : Option (List X)) → is_some (both (λ xs ys. xs ++ ys) o q) ≡ (is_some o && is_some q)
 one_more None q = refl
@@ -50,13 +50,6 @@ several_match all (compound ts) h = ap (fielded_all (row all)) (sym (trees_liste
 several_match all (list no_trees) h = absurd (cc)
 several_match all (list (more t ts)) h = absurd (cc)
 several_match all (table ps) h = absurd (cc)
-
-pub no_several : (all : List Address) (v : Tree) → (kind_of v ≡ kind.Compound → ⊥) → fielded (several (row all)) v ≡ None
-no_several all (number n) h = refl
-no_several all (text b) h = refl
-no_several all (compound ts) h = absurd (h refl)
-no_several all (list ts) h = refl
-no_several all (table ps) h = refl
 
 -- ---- at a place of the row
 

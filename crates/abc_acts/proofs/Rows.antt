@@ -1,22 +1,16 @@
 -- Acts one after the other: what is done with two rows of parts is done with the first and then with the second.
-use Rattle.std.proofs.Common.{◌≡◌, ◌<◌, ◌+◌, zero, suc, length, drop, get_or, subst, arith, List, [], ◌∷◌, ◌++◌, ℕ, Bool, true, false, refl, sym, ap, ◌∙◌}
-use Rattle.abc_acts.specs.declared.spots.Spot.{Spot}
-use Rattle.abc_acts.specs.Views.{address_of}
-use Rattle.std.specs.Prelude.{◌&&◌, map}
-use Rattle.std.specs.List.{list_all}
+use Rattle.std.proofs.Common.{◌≡◌, ◌<◌, ◌+◌, zero, suc, length, drop, get_or, subst, arith, List, [], ◌∷◌, ◌++◌, ℕ, refl, sym, ap, ◌∙◌}
+use Rattle.abc_state.specs.declared.spots.Spot.{Spot}
+use Rattle.abc_state.specs.Views.{address_of}
+use Rattle.std.specs.Prelude.{map}
 use Rattle.abc_value.specs.Tree.{Tree}
 use Rattle.abc_meaning.specs.State.{State, Got, gives, stops, row, Run, after}
 use Rattle.abc_meaning.specs.Here.{Here}
 use Rattle.abc_meaning.specs.Changing.{Part, deletes, puts, change, put_parts, delete, mark, parts, parts_all}
 use Rattle.abc_meaning.specs.PutBack.{mark_all}
-use Rattle.abc_acts.specs.declared.halt.Halt.{Halt}
-use Rattle.abc_acts.specs.declared.halt.Halt.TheVariants.{Fault, Wrong}
-use Rattle.abc_acts.specs.Agrees.{Halts}
-
--- what goes on after what went on
-pub after_after : {A B C : Type 0} (g : Got A) (go : A → Run B) (on : B → Run C) → after (after g go) on ≡ after g (λ a s. after (go a s) on)
-after_after (gives a s) go on = refl
-after_after (stops line stop s) go on = refl
+use Rattle.abc_state.specs.declared.halt.Halt.{Halt}
+use Rattle.abc_state.specs.declared.halt.Halt.TheVariants.{Fault, Wrong}
+use Rattle.abc_state.specs.Agrees.{Halts}
 
 -- a stop is one, whatever would follow
 pub halts_after : {A B : Type 0} (line : ℕ) (h : Halt) (s : State) (g : Got A) (go : A → Run B) → Halts line h s g → Halts line h s (after g go)
@@ -46,14 +40,6 @@ marked_both here (p ∷ ps) qs s = by (mark here p.name s) (λ t. marked_both he
     by : (g : Got (Unit {0})) → ((t : State) → mark_all here (ps ++ qs) t ≡ after (mark_all here ps t) (λ _. mark_all here qs)) → after g (λ _. mark_all here (ps ++ qs)) ≡ after (after g (λ _. mark_all here ps)) (λ _. mark_all here qs)
     by (gives u t) more = more t
     by (stops line stop t) more = refl
-
-pub all_both : {A : Type 0} (f : A → Bool) (xs ys : List A) → list_all f (xs ++ ys) ≡ (list_all f xs && list_all f ys)
-all_both f [] ys = refl
-all_both f (x ∷ xs) ys = by (f x) (all_both f xs ys)
-  where
-    by : (b : Bool) → list_all f (xs ++ ys) ≡ (list_all f xs && list_all f ys) → (b && list_all f (xs ++ ys)) ≡ ((b && list_all f xs) && list_all f ys)
-    by true e = e
-    by false e = refl
 
 -- ---- along a row of addresses
 

@@ -10,12 +10,12 @@ use Rattle.abc_frames.specs.Maps.{Frame}
 use Rattle.abc_meaning.specs.PutBack.{along, entry, named, with_formal}
 use Rattle.abc_tree.specs.declared.formulas.NameId.{NameId}
 use Rattle.abc_tree.specs.RegularItems.{numbers}
-use Rattle.abc_acts.specs.declared.actuals.Actual.{Actual as HeldActual}
-use Rattle.abc_acts.specs.declared.run.Formal.{Formal as HeldFormal}
-use Rattle.abc_acts.specs.Views.{actual_of, address_of, formal_of}
+use Rattle.abc_state.specs.declared.actuals.Actual.{Actual as HeldActual}
+use Rattle.abc_state.specs.declared.run.Formal.{Formal as HeldFormal}
+use Rattle.abc_state.specs.Views.{actual_of, address_of, formal_of}
 use Rattle.abc_acts.specs.inner.Changing.{NeedsOld, IsFirstOf, IsMarked, IsMarkedAs}
-use Rattle.abc_acts.specs.declared.spots.Spot.{Spot}
-use Rattle.abc_acts.specs.declared.halt.Halt.TheVariants.{Fault}
+use Rattle.abc_state.specs.declared.spots.Spot.{Spot}
+use Rattle.abc_state.specs.declared.halt.Halt.TheVariants.{Fault}
 use Rattle.abc_value.specs.declared.faults.RunFault.TheVariants.{NotAnAddress}
 
 -- what is not there can't be changed, but for a value that is put in its place

@@ -1,46 +1,29 @@
--- What a row takes, what fits, and what is removed.
-use Rattle.std.proofs.Common.{◌≡◌, ◌≢◌, ◌↔◌, Bool, true, false, List, Some, Result, Ok, Err, refl, sym, subst, ap, ◌∙◌}
-use Rattle.std.specs.Prelude.{IsTrue, IsSome, IsNone, IfOk, if◌then◌else◌}
+-- What fits an element, and what is removed.
+use Rattle.std.proofs.Common.{◌≡◌, ◌≢◌, Bool, true, false, Some, Result, Ok, Err, refl, sym, subst, ap, ◌∙◌}
+use Rattle.std.specs.Prelude.{IsTrue, IfOk, if◌then◌else◌}
 use Rattle.std.specs.List.{Contains}
 use Rattle.abc_num.specs.declared.memory.OutOfMemory.{OutOfMemory}
-use Rattle.abc_tree.specs.declared.operations.Op.{Op}
 use Rattle.abc_value.specs.declared.faults.RunFault.{RunFault}
 use Rattle.abc_value.specs.declared.faults.RunFault.TheVariants.{NoElement}
 use Rattle.abc_value.specs.declared.faults.ValueFault.{ValueFault}
 use Rattle.abc_value.specs.declared.faults.ValueFault.TheVariants as of_value
 use Rattle.abc_value.specs.Faults.{run_fault_of_value}
-use Rattle.abc_acts.specs.declared.halt.Halt.{Halt}
-use Rattle.abc_acts.specs.declared.halt.Halt.TheVariants.{Fault}
+use Rattle.abc_state.specs.declared.halt.Halt.{Halt}
+use Rattle.abc_state.specs.declared.halt.Halt.TheVariants.{Fault}
 use Rattle.abc_acts.specs.inner.Changing.{Stops}
 use Rattle.abc_value.specs.Tree.{Tree, number, text, compound, list, table, trees}
-use Rattle.abc_value.specs.Parts.{IsList, IsTable, parts_of}
+use Rattle.abc_value.specs.Parts.{IsList, parts_of}
 use Rattle.abc_value.specs.Changes.{is_element, without}
-use Rattle.abc_value.specs.Forms.{anything, form_of}
+use Rattle.abc_value.specs.Forms.{form_of}
 use Rattle.abc_value.specs.Regular.{IsRegular, AllRegular}
-use Rattle.abc_value.proofs.Rows.{trees_listed}
-use Rattle.abc_value.proofs.Found.{element_there, there_element}
-use Rattle.abc_predef.specs.Signatures.{operands, result_of}
-use Rattle.abc_predef.specs.Takes.{AreTaken, GivesValue, IsTest}
+use Rattle.abc_value.proofs.trees.Rows.{trees_listed}
+use Rattle.abc_value.proofs.ordering.Found.{element_there, there_element}
 use Rattle.abc_meaning.specs.State.{faulty}
-use Rattle.abc_meaning.specs.Fits.{fits_table, fits_list}
+use Rattle.abc_meaning.specs.Fits.{fits_list}
 use Rattle.abc_meaning.specs.Changing.{removes, changed_to, if_fit}
-use Rattle.abc_acts.proofs.Forming.{table_agrees, list_agrees}
+use Rattle.abc_state.proofs.Forming.{list_agrees}
 
-pub gives_taken : (op : Op) (xs : List Tree) (r : Result Bool OutOfMemory) → IsSome (result_of op) → IfOk r (λ b. IsTrue b ↔ AreTaken (operands op) xs) → IfOk r (λ b. IsTrue b → GivesValue op xs)
-unfolding GivesValue
-gives_taken op xs (Ok b) s h = λ t. (s, h.0 t)
-gives_taken op xs (Err e) s h = tt
-
-pub tests_taken : (op : Op) (xs : List Tree) (r : Result Bool OutOfMemory) → IsNone (result_of op) → IfOk r (λ b. IsTrue b ↔ AreTaken (operands op) xs) → IfOk r (λ b. IsTrue b → IsTest op xs)
-unfolding IsTest
-tests_taken op xs (Ok b) s h = λ t. (s, h.0 t)
-tests_taken op xs (Err e) s h = tt
-
--- what fits a key is a table, and what fits an element is a list
-pub table_fits : (t k : Tree) (r : Result Bool OutOfMemory) → IfOk r (λ b. b ≡ fits_table t k (Some anything)) → IfOk r (λ b. IsTrue b → IsTable t)
-table_fits t k (Ok b) h = λ e. table_agrees t (form_of k) (Some anything) (sym h ∙ e)
-table_fits t k (Err e) h = tt
-
+-- what fits an element is a list
 pub list_fits : (t v : Tree) (r : Result Bool OutOfMemory) → IfOk r (λ b. b ≡ fits_list t v) → IfOk r (λ b. IsTrue b → IsList t)
 list_fits t v (Ok b) h = λ e. list_agrees t (form_of v) (sym h ∙ e)
 list_fits t v (Err e) h = tt

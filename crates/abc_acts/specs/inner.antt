@@ -2,4 +2,3 @@
 pub mod Binding
 pub mod Changing
 pub mod Fields
-pub mod Examples

@@ -8,20 +8,17 @@ ghost use Rattle.abc_num.specs.declared.lines.RawLine.{RawLine};
 ghost use Rattle.abc_tree.specs.RegularItems.{bound_names};
 ghost use Rattle.abc_meaning.specs.Fits.{train_elements};
 ghost use Rattle.abc_meaning.specs.Bindings.{bind, bindings, held, assign_all};
-ghost use Rattle.abc_acts.specs.Views.{at, held_of, scope_of, state_of};
-ghost use Rattle.abc_acts.specs.Agrees.{Agrees};
+ghost use Rattle.abc_state.specs.Views.{at, scope_of, state_of};
+ghost use Rattle.abc_acts.specs.Views.{held_of};
+ghost use Rattle.abc_state.specs.Agrees.{Agrees};
 ghost use Rattle.abc_acts.specs.Words.{GivesTrain};
 ghost use Rattle.abc_acts.specs.inner.Binding.{Adds, bindings_all};
 
-use crate::halt::Halt;
-use crate::looking::{assign, look};
-use crate::run::Run;
-use crate::scope::Scope;
-use crate::values::copied;
 use abc_frames::Targets;
 use abc_num::{Items, OutOfMemory};
+use abc_state::{Halt, Run, Scope, assign, copied, look};
 use abc_tree::Bound;
-use abc_value::{Kind, RunFault, Shape, Value};
+use abc_value::{Kind, Shape, Value};
 use std::alloc::Global;
 use std::marker::Model;
 
@@ -149,52 +146,46 @@ fn bind_fields(
     ensures left { run.new.left ≡ run.old.left }
 {
     let mut found = Vec::new(alloc);
-    if !add_bindings(&mut found, bound, value)? {
-        return Err(Halt::Wrong);
-    }
+    add_bindings(&mut found, bound, value)?;
     Ok(assign_bindings(scope, run, targets, found)?)
 }
 
 /// Names, each with its value.
 pub(crate) type Bindings = Vec<(u32, Value)>;
 
-/// Adds the names with the parts of a value to which they are set. False where they don't match it.
+/// Adds the names with the parts of a value to which they are set.
+///
+/// Errors: `Wrong` where they don't match it; want of memory.
 #[cycle(bindings)]
-pub(crate) fn add_bindings(
-    found: &mut Bindings,
-    bound: &Bound,
-    value: &Value,
-) -> Result<bool, OutOfMemory>
-    ensures { IfOk result (λ all. Adds all (bindings bound.now value.now) found.old.items found.new.items) }
+pub(crate) fn add_bindings(found: &mut Bindings, bound: &Bound, value: &Value) -> Result<(), Halt>
+    ensures { Adds result (bindings bound.now value.now) found.old.items found.new.items }
 {
     match bound {
         Bound::One(name) => {
             found.push((name.0, copied(value)?))?;
-            Ok(true)
+            Ok(())
         }
         Bound::Several(parts) => match value.kind() {
             Kind::Compound => add_fields(found, parts.as_slice(), value),
-            _ => Ok(false),
+            _ => Err(Halt::Wrong),
         },
     }
 }
 
 /// The same for each part and each field of a compound.
 #[cycle(bindings)]
-fn add_fields(found: &mut Bindings, parts: &[Bound], compound: &Value) -> Result<bool, OutOfMemory>
-    ensures { IfOk result (λ all. Adds all (bindings_all parts.now (parts_of compound.now)) found.old.items found.new.items) }
+fn add_fields(found: &mut Bindings, parts: &[Bound], compound: &Value) -> Result<(), Halt>
+    ensures { Adds result (bindings_all parts.now (parts_of compound.now)) found.old.items found.new.items }
 {
     for (place, part) in parts.iter().enumerate() {
         let Some(field) = compound.part(place) else {
-            return Ok(false);
+            return Err(Halt::Wrong);
         };
-        if !add_bindings(found, part, field)? {
-            return Ok(false);
-        }
+        add_bindings(found, part, field)?;
     }
     match compound.part(parts.len()) {
-        None => Ok(true),
-        Some(_) => Ok(false),
+        None => Ok(()),
+        Some(_) => Err(Halt::Wrong),
     }
 }
 

@@ -9,19 +9,15 @@ ghost use Rattle.abc_meaning.specs.PutBack.{entry, named, put_back, put_one};
 ghost use Rattle.abc_meaning.specs.Bindings.{bindings};
 ghost use Rattle.abc_acts.specs.inner.Binding.{Adds, bindings_all};
 ghost use Rattle.abc_meaning.specs.Calls.{returned, reported, with_bindings};
-ghost use Rattle.abc_acts.specs.Views.{at, actual_of, flow_of, formal_of, scope_of, state_of};
-ghost use Rattle.abc_acts.specs.Agrees.{Agrees};
+ghost use Rattle.abc_state.specs.Views.{at, actual_of, flow_of, formal_of, scope_of, state_of};
+ghost use Rattle.abc_state.specs.Agrees.{Agrees};
 ghost use Rattle.abc_acts.specs.Words.{GivesNames, GivesEntry, entry_view, formal_frame, leaving_to};
 
-use crate::actuals::Actual;
 use crate::binding::{Bindings, add_bindings};
 use crate::changes::{delete_there, put};
-use crate::halt::{Exit, Halt};
-use crate::run::{CallNames, Formal, Run};
-use crate::scope::Scope;
-use crate::values::copied;
 use abc_frames::Targets;
 use abc_num::{Items, OutOfMemory};
+use abc_state::{Actual, CallNames, Exit, Formal, Halt, Run, Scope, copied};
 use abc_tree::{Bound, NameId, Unit};
 use abc_value::{RunFault, Value};
 use std::alloc::Global;
@@ -38,41 +34,37 @@ pub fn formal_names(alloc: Global, unit: &Unit, actuals: Vec<Value>) -> Result<C
     ensures { GivesNames result (formal_frame unit.now actuals.items) }
 {
     let mut found = Vec::new(alloc);
-    if !add_actuals(&mut found, unit.formals.as_slice(), actuals)? {
-        return Err(Halt::Wrong);
-    }
+    add_actuals(&mut found, unit.formals.as_slice(), actuals)?;
     Ok(names_of(alloc, found)?)
 }
 
-/// Adds the names of formals with what they are set to. False where the formals don't match the actuals.
-fn add_actuals(
-    found: &mut Bindings,
-    formals: &[Bound],
-    actuals: Vec<Value>,
-) -> Result<bool, OutOfMemory>
-    ensures { IfOk result (λ all. Adds all (bindings_all formals.now actuals.items) found.old.items found.new.items) }
+/// Adds the names of formals with what they are set to.
+///
+/// Errors: `Wrong` where the formals don't match the actuals; want of memory.
+fn add_actuals(found: &mut Bindings, formals: &[Bound], actuals: Vec<Value>) -> Result<(), Halt>
+    ensures { Adds result (bindings_all formals.now actuals.items) found.old.items found.new.items }
 {
     if formals.len() != actuals.len() {
-        return Ok(false);
+        return Err(Halt::Wrong);
     }
     let mut place = 0;
     for actual in actuals {
-        if !add_actual(found, &formals[place], actual)? {
-            return Ok(false);
-        }
+        add_actual(found, &formals[place], actual)?;
         place += 1;
     }
-    Ok(true)
+    Ok(())
 }
 
 /// Adds the names of a formal with what they are set to.
-fn add_actual(found: &mut Bindings, formal: &Bound, actual: Value) -> Result<bool, OutOfMemory>
-    ensures { IfOk result (λ all. Adds all (bindings formal.now actual) found.old.items found.new.items) }
+///
+/// Errors: `Wrong` where the formal doesn't match the actual; want of memory.
+fn add_actual(found: &mut Bindings, formal: &Bound, actual: Value) -> Result<(), Halt>
+    ensures { Adds result (bindings formal.now actual) found.old.items found.new.items }
 {
     match formal {
         Bound::One(name) => {
             found.push((name.0, actual))?;
-            Ok(true)
+            Ok(())
         }
         Bound::Several(_) => add_bindings(found, formal, &actual),
     }

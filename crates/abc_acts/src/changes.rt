@@ -1,29 +1,21 @@
 //! Changes of what has an address: a value is put there, an element is inserted or removed, or it is deleted.
-ghost use Rattle.std.specs.Prelude.{◌≡◌, [], ◌∷◌, ℕ, Bool, List, Some, None, map, option_map, is_some, IfOk, IfSome};
+ghost use Rattle.std.specs.Prelude.{◌≡◌, ℕ, Bool, List, Some, None, map, option_map, is_some, IfOk, IfSome};
 ghost use Rattle.std.specs.List.{list_all};
 ghost use Rattle.abc_num.specs.declared.lines.RawLine.{RawLine};
-ghost use Rattle.abc_value.specs.Tree.{Tree};
-ghost use Rattle.abc_value.specs.declared.faults.RunFault.TheVariants.{NoKey};
-ghost use Rattle.abc_meaning.specs.State.{State};
 ghost use Rattle.abc_meaning.specs.State.{row};
 ghost use Rattle.abc_meaning.specs.Here.{Scope as Names, look, assign};
 ghost use Rattle.abc_frames.specs.Maps.{Targets as Store};
-ghost use Rattle.abc_meaning.specs.Changing.{inserts, removes, parts, parts_all, fielded, put, put_parts, delete, change, change_list, formal_named, mark};
+ghost use Rattle.abc_meaning.specs.Changing.{inserts, removes, parts, parts_all, put, delete, change, change_list, formal_named, mark};
 ghost use Rattle.abc_meaning.specs.PutBack.{along, has_value, mark_all, put_at};
-ghost use Rattle.abc_acts.specs.Views.{at, address_of, formal_of, step_of, scope_of, state_of};
-ghost use Rattle.abc_acts.specs.Agrees.{Agrees};
+ghost use Rattle.abc_state.specs.Views.{at, address_of, formal_of, step_of, scope_of, state_of};
+ghost use Rattle.abc_state.specs.Agrees.{Agrees};
 ghost use Rattle.abc_acts.specs.inner.Changing.{change_of, assigned_at, NeedsOld, IsFirstOf, IsMarked};
 
-use crate::changing::{Change, change_in};
+use crate::changing::{Change, Fate, change_in};
 use crate::fields::put_fields;
-use crate::halt::Halt;
-use crate::looking::{assign, look, take};
-use crate::run::{Formal, Run};
-use crate::scope::Scope;
-use crate::spots::{Spot, Step};
-use crate::values::fits_key;
 use abc_frames::Targets;
 use abc_num::{Items, OutOfMemory};
+use abc_state::{Formal, Halt, Run, Scope, Spot, Step, assign, fits_key, look, take};
 use abc_value::{RunFault, Value};
 use std::alloc::Global;
 
@@ -214,8 +206,8 @@ fn change_old(
     };
     let mut value = old;
     match change_in(alloc, what, steps, &mut value) {
-        Ok(true) => Ok(assign(scope, run, targets, name, Some(value))?),
-        Ok(false) => Ok(()),
+        Ok(Fate::Stands) => Ok(assign(scope, run, targets, name, Some(value))?),
+        Ok(Fate::Deleted) => Ok(()),
         Err(halt) => {
             assign(scope, run, targets, name, Some(value))?;
             Err(halt)

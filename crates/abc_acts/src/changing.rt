@@ -1,20 +1,17 @@
 //! What a change makes of a value: at the end of some steps a value is put, an element inserted or removed, or it is deleted.
-ghost use Rattle.std.specs.Prelude.{◌≡◌, [], ◌∷◌, ℕ, Bool, List, Some, None, map, option_map, Ok, IsTrue, IfOk, OnErr};
+ghost use Rattle.std.specs.Prelude.{◌≡◌, Some, None, map, option_map, Ok, IsTrue, IfOk};
 ghost use Rattle.abc_value.specs.declared.faults.RunFault.{RunFault as Fault};
 ghost use Rattle.abc_value.specs.declared.faults.RunFault.TheVariants.{NoKey};
-ghost use Rattle.abc_value.specs.Parts.{IsList, IsTable, pairs_of, parts_of};
-ghost use Rattle.abc_value.specs.Changes.{associate_of};
-ghost use Rattle.abc_value.specs.Forms.{anything, form_of};
+ghost use Rattle.abc_value.specs.Parts.{IsList, IsTable};
+ghost use Rattle.abc_value.specs.Forms.{form_of};
 ghost use Rattle.abc_meaning.specs.State.{key};
 ghost use Rattle.abc_meaning.specs.Fits.{fits_table, fits_list};
 ghost use Rattle.abc_meaning.specs.Changing.{inserts, removes, changed, changed_to, with_associate};
-ghost use Rattle.abc_acts.specs.Views.{step_of};
-ghost use Rattle.abc_acts.specs.inner.Changing.{change_of, IsChanged, IsMade, NeedsOld};
+ghost use Rattle.abc_state.specs.Views.{step_of};
+ghost use Rattle.abc_acts.specs.inner.Changing.{change_of, IsAltered, IsChanged, IsMade, NeedsOld};
 
-use crate::halt::{Halt, halt_of};
-use crate::spots::Step;
-use crate::values::{copied, fits_key};
 use abc_num::OutOfMemory;
+use abc_state::{Halt, Step, copied, fits_key, halt_of};
 use abc_value::{RunFault, Shape, Value};
 use std::alloc::Global;
 
@@ -31,15 +28,23 @@ pub(crate) enum Change {
     Deletes,
 }
 
-/// Changes the part of a value that some steps lead to. False where the value itself is deleted. Where it can't be changed it
-/// stays as it is.
+/// What becomes of a value that is changed.
+#[derive(Clone, Copy, Debug, PartialEq, Eq)]
+pub(crate) enum Fate {
+    /// It stands, as the change made it.
+    Stands,
+    /// It is deleted.
+    Deleted,
+}
+
+/// Changes the part of a value that some steps lead to. Where it can't be changed it stays as it is.
 #[cycle(change)]
 pub(crate) fn change_in(
     alloc: Global,
     what: Change,
     steps: &[Step],
     value: &mut Value,
-) -> Result<bool, Halt>
+) -> Result<Fate, Halt>
     ensures { (missing : Fault) → IsChanged result value.old value.new (changed (change_of what) missing (map step_of steps.now) (Some value.old)) }
 {
     match steps.split_first() {
@@ -49,7 +54,8 @@ pub(crate) fn change_in(
                 return Err(Halt::Wrong);
             }
             let part = changed_part(alloc, what, rest, value.get(key))?;
-            set_associate(alloc, value, key, part)
+            set_associate(alloc, value, key, part)?;
+            Ok(Fate::Stands)
         }
     }
 }
@@ -86,42 +92,48 @@ fn changed_copy(
     };
     let mut value = copied(old)?;
     match change_in(alloc, what, steps, &mut value)? {
-        true => Ok(Some(value)),
-        false => Ok(None),
+        Fate::Stands => Ok(Some(value)),
+        Fate::Deleted => Ok(None),
     }
 }
 
 /// Changes the whole value.
-fn change_whole(alloc: Global, what: Change, value: &mut Value) -> Result<bool, Halt>
+fn change_whole(alloc: Global, what: Change, value: &mut Value) -> Result<Fate, Halt>
     ensures { (missing : Fault) → IsChanged result value.old value.new (changed_to (change_of what) missing (Some value.old)) }
 {
     match what {
         Change::Puts(new) => {
             *value = new;
-            Ok(true)
+            Ok(Fate::Stands)
         }
-        Change::Inserts(element) => insert(alloc, value, element),
-        Change::Removes(element) => remove(alloc, value, &element),
-        Change::Deletes => Ok(false),
+        Change::Inserts(element) => {
+            insert(alloc, value, element)?;
+            Ok(Fate::Stands)
+        }
+        Change::Removes(element) => {
+            remove(alloc, value, &element)?;
+            Ok(Fate::Stands)
+        }
+        Change::Deletes => Ok(Fate::Deleted),
     }
 }
 
 /// Inserts an element into a list.
-fn insert(alloc: Global, list: &mut Value, element: Value) -> Result<bool, Halt>
-    ensures { (missing : Fault) → IsChanged result list.old list.new (changed_to (inserts element) missing (Some list.old)) }
+fn insert(alloc: Global, list: &mut Value, element: Value) -> Result<(), Halt>
+    ensures { (missing : Fault) → IsAltered result list.old list.new (changed_to (inserts element) missing (Some list.old)) }
 {
     if !fits_element(alloc, list, &element)? {
         return Err(Halt::Wrong);
     }
     match list.insert(element) {
-        Ok(()) => Ok(true),
+        Ok(()) => Ok(()),
         Err(fault) => Err(halt_of(fault)),
     }
 }
 
 /// Removes an element from a list.
-fn remove(alloc: Global, list: &mut Value, element: &Value) -> Result<bool, Halt>
-    ensures { (missing : Fault) → IsChanged result list.old list.new (changed_to (removes element.now) missing (Some list.old)) }
+fn remove(alloc: Global, list: &mut Value, element: &Value) -> Result<(), Halt>
+    ensures { (missing : Fault) → IsAltered result list.old list.new (changed_to (removes element.now) missing (Some list.old)) }
 {
     if !fits_element(alloc, list, element)? {
         return Err(Halt::Wrong);
@@ -129,7 +141,7 @@ fn remove(alloc: Global, list: &mut Value, element: &Value) -> Result<bool, Halt
     // Their clauses tell that the values are regular.
     let _lengths = (list.len(), element.len());
     match list.remove(element) {
-        Ok(()) => Ok(true),
+        Ok(()) => Ok(()),
         Err(fault) => Err(halt_of(fault)),
     }
 }
@@ -161,9 +173,9 @@ fn set_associate(
     table: &mut Value,
     key: &Value,
     associate: Option<Value>,
-) -> Result<bool, Halt>
+) -> Result<(), Halt>
     requires { IsTable table.old }
-    ensures { IsChanged result table.old table.new (with_associate key.now table.old (Ok associate)) }
+    ensures { IsAltered result table.old table.new (with_associate key.now table.old (Ok associate)) }
 {
     match associate {
         Some(associate) => put_associate(alloc, table, key, associate),
@@ -177,26 +189,26 @@ fn put_associate(
     table: &mut Value,
     key: &Value,
     associate: Value,
-) -> Result<bool, Halt>
+) -> Result<(), Halt>
     requires { IsTable table.old }
-    ensures { IsChanged result table.old table.new (with_associate key.now table.old (Ok (Some associate))) }
+    ensures { IsAltered result table.old table.new (with_associate key.now table.old (Ok (Some associate))) }
 {
     if !fits_associate(alloc, table, key, &associate)? {
         return Err(Halt::Wrong);
     }
     match table.put(copied(key)?, associate) {
-        Ok(()) => Ok(true),
+        Ok(()) => Ok(()),
         Err(fault) => Err(halt_of(fault)),
     }
 }
 
 /// Takes a key out of a table, at which something was.
-fn delete_key(table: &mut Value, key: &Value) -> Result<bool, Halt>
+fn delete_key(table: &mut Value, key: &Value) -> Result<(), Halt>
     requires { IsTable table.old }
-    ensures { IsChanged result table.old table.new (with_associate key.now table.old (Ok None)) }
+    ensures { IsAltered result table.old table.new (with_associate key.now table.old (Ok None)) }
 {
     match table.delete(key) {
-        Ok(()) => Ok(true),
+        Ok(()) => Ok(()),
         // The key is there, so there was not enough memory.
         Err(_) => Err(Halt::Fault(RunFault::Memory)),
     }

@@ -3,18 +3,14 @@ ghost use Rattle.std.specs.Prelude.{◌≡◌, ℕ, Bool, List, map, is_some, tr
 ghost use Rattle.abc_num.specs.declared.lines.RawLine.{RawLine};
 ghost use Rattle.abc_value.specs.Parts.{parts_of};
 ghost use Rattle.abc_meaning.specs.Changing.{fielded, put, put_parts};
-ghost use Rattle.abc_acts.specs.Views.{at, address_of, scope_of, state_of};
-ghost use Rattle.abc_acts.specs.Agrees.{Agrees};
+ghost use Rattle.abc_state.specs.Views.{at, address_of, scope_of, state_of};
+ghost use Rattle.abc_state.specs.Agrees.{Agrees};
 ghost use Rattle.abc_acts.specs.inner.Fields.{have_match, fields_at, all_fields_at};
 
 use crate::changes::change;
 use crate::changing::Change;
-use crate::halt::Halt;
-use crate::run::Run;
-use crate::scope::Scope;
-use crate::spots::Spot;
-use crate::values::copied;
 use abc_frames::Targets;
+use abc_state::{Halt, Run, Scope, Spot, copied};
 use abc_value::{Kind, Value};
 use std::alloc::Global;
 

@@ -15,7 +15,7 @@ use Rattle.abc_unify.specs.Graphs.{Seen, with_demand, IsUnsolvable}
 use Rattle.abc_value.specs.Tree.{Tree}
 use Rattle.abc_value.specs.Types.{has}
 use Rattle.abc_value.specs.Forms.{Form, fits, Fits, form_of}
-use Rattle.abc_value.proofs.Shaping.{has_form, form_has}
+use Rattle.abc_value.proofs.forms.Shaping.{has_form, form_has}
 use Rattle.abc_ground.specs.Groups.{Cut}
 use Rattle.abc_ground.specs.Typable.{Values, AreTypes}
 use Rattle.abc_demand.specs.Typings.{Agree}

@@ -11,6 +11,9 @@ use std::rc::Rc;
 /// The most elements of a chunk.
 pub(crate) const MOST_IN_CHUNK: usize = 64;
 
+/// By how many elements the room of a chunk grows. Room that doubles would stand half empty in chunks that were cut in halves.
+const GROWTH: usize = 8;
+
 /// Chunks, each with one element at least, and how many elements stand in front of each; last how many there are.
 #[derive(Drop)]
 pub(crate) struct Tower<T> {
@@ -172,6 +175,16 @@ fn behind_cut(spot: Spot, cut: usize) -> Spot
     }
 }
 
+/// Makes room for one element more, where there is none.
+fn make_room<T>(items: &mut Vec<T>) -> Result<(), AllocError>
+    ensures { items.new.items ≡ items.old.items }
+{
+    if items.len() < items.capacity() {
+        return Ok(());
+    }
+    items.reserve_exact(GROWTH)
+}
+
 /// Puts `x` at a place of one chunk; a chunk with another owner is copied first.
 fn put_in_chunk<T: Clone + Drop>(chunk: &mut Rc<Vec<T>>, at: usize, x: T) -> Result<(), AllocError>
     requires within { at ≤ length chunk.old.value.items }
@@ -180,6 +193,7 @@ fn put_in_chunk<T: Clone + Drop>(chunk: &mut Rc<Vec<T>>, at: usize, x: T) -> Res
     ensures err { OnErr result (chunk.new.value.items ≡ chunk.old.value.items) }
 {
     let items = Rc::make_mut(chunk)?;
+    make_room(items)?;
     items.insert(at, x)?;
     Ok(())
 }

@@ -1,5 +1,5 @@
 -- The names of the lines above, and when a name gets a second role.
-use Rattle.std.specs.Prelude.{ℕ, Bool, false, ◌||◌, List, [], ◌∷◌, is_some}
+use Rattle.std.specs.Prelude.{ℕ, Bool, true, false, ◌||◌, List, [], ◌∷◌, is_some}
 use Rattle.std.specs.List.{list_any}
 use Rattle.abc_num.specs.Names.{number_of, with_name}
 use Rattle.abc_expressions.specs.Addresses.{each_once}
@@ -9,6 +9,8 @@ use Rattle.abc_outline.specs.declared.rows.Row.{Row}
 use Rattle.abc_outline.specs.LineNames.{names_of}
 use Rattle.abc_outline.specs.OwnNames.{row_tokens}
 use Rattle.abc_faults.specs.declared.facts.Facts.{Facts}
+use Rattle.abc_faults.specs.declared.taken_names.Roles.{Roles}
+use Rattle.abc_faults.specs.declared.taken_names.Roles.TheVariants.{Single, Second}
 use Rattle.abc_faults.specs.declared.taken_names.TakenNames.{TakenNames}
 use Rattle.abc_faults.specs.Facts.{place_below}
 
@@ -23,6 +25,11 @@ meet names others = list_any (is_one names) others
 abbrev pub again : List (List ℕ) → List (List ℕ) → Bool
 again found [] = false
 again found (name ∷ names) = is_one found name || again (with_name found name) names
+
+-- whether a name gets a second role
+abbrev pub roles_of : Bool → Roles
+roles_of true = Second
+roles_of false = Single
 
 -- the names of a line
 abbrev pub names_here : Facts → List Row → Row → LineNames

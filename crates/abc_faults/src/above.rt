@@ -65,14 +65,14 @@ impl Above {
     {
         let place = self.outline.next(row.edges)?;
         let here = line_names(alloc, facts.setting.unit, place.role, row)?;
-        let twice = self.taken.take_up(alloc, &here)?;
+        let roles = self.taken.take_up(alloc, &here)?;
         use_row(alloc, facts, row, &mut self.used)?;
         let shares = self.shares;
         self.shares = share_on(place, row, shares);
         Ok(Sight {
             place,
             shares,
-            twice,
+            twice: roles.is_second(),
             names: self.used.len(),
         })
     }

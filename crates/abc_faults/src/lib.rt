@@ -24,4 +24,4 @@ pub use judging::{Judged, judge};
 pub use laws::least_fault;
 pub use sayings::Saying;
 pub use sight::Sight;
-pub use taken_names::TakenNames;
+pub use taken_names::{Roles, TakenNames};

@@ -1,8 +1,8 @@
 //! The names of the lines above, by their roles.
-ghost use Rattle.std.specs.Prelude.{◌≡◌, IfOk, OnOk};
+ghost use Rattle.std.specs.Prelude.{◌≡◌, Bool, IfOk, OnOk};
 ghost use Rattle.abc_num.specs.Names.{with_name};
 ghost use Rattle.abc_expressions.specs.Addresses.{each_once};
-ghost use Rattle.abc_faults.specs.Names.{again, clashes_above, clashes_with, is_one, meet, no_names, taken_up, twice};
+ghost use Rattle.abc_faults.specs.Names.{again, clashes_above, clashes_with, is_one, meet, no_names, roles_of, taken_up, twice};
 
 use abc_num::{Names, OutOfMemory, Text};
 use abc_outline::LineNames;
@@ -20,6 +20,34 @@ pub struct TakenNames {
     pub bound: Names,
     /// Names that stand in addresses.
     pub put: Names,
+}
+
+/// Whether names that are taken up have one role each.
+#[derive(Clone, Copy, Debug, PartialEq, Eq)]
+pub enum Roles {
+    /// Each has one.
+    Single,
+    /// One of them gets a second.
+    Second,
+}
+
+impl Roles {
+    /// By whether a name gets a second role.
+    fn of(second: bool) -> Roles
+        ensures { result ≡ roles_of second }
+    {
+        if second { Roles::Second } else { Roles::Single }
+    }
+
+    /// Whether a name gets a second role.
+    pub fn is_second(self) -> bool
+        ensures { (second : Bool) → self ≡ roles_of second → result ≡ second }
+    {
+        match self {
+            Roles::Single => false,
+            Roles::Second => true,
+        }
+    }
 }
 
 fn is_one(names: &Names, name: &Text) -> bool
@@ -63,9 +91,9 @@ fn take_all(alloc: Global, names: &mut Names, others: &[Text]) -> Result<(), Out
     Ok(())
 }
 
-/// Takes up those of the names that are new, and tells whether one was there already.
-fn take_again(alloc: Global, names: &mut Names, others: &[Text]) -> Result<bool, OutOfMemory>
-    ensures again { IfOk result (λ found. found ≡ again names.old others.now) }
+/// Takes up those of the names that are new. One that was there already gets a second role.
+fn take_again(alloc: Global, names: &mut Names, others: &[Text]) -> Result<Roles, OutOfMemory>
+    ensures again { IfOk result (λ roles. roles ≡ roles_of (again names.old others.now)) }
     ensures taken { OnOk result (names.new ≡ each_once names.old others.now) }
 {
     let mut found = false;
@@ -75,7 +103,7 @@ fn take_again(alloc: Global, names: &mut Names, others: &[Text]) -> Result<bool,
         take_name(alloc, names, name)?;
         ahead = behind;
     }
-    Ok(found)
+    Ok(Roles::of(found))
 }
 
 impl TakenNames {
@@ -109,18 +137,18 @@ impl TakenNames {
             || (meet(&self.put, here.bound.as_slice()) || meet(&self.put, here.refined.as_slice()))
     }
 
-    /// Takes up the names of a line, and tells whether one of them gets a second role there.
-    pub fn take_up(&mut self, alloc: Global, here: &LineNames) -> Result<bool, OutOfMemory>
-        ensures twice { IfOk result (λ found. found ≡ twice self.old here.now) }
+    /// Takes up the names of a line.
+    pub fn take_up(&mut self, alloc: Global, here: &LineNames) -> Result<Roles, OutOfMemory>
+        ensures twice { IfOk result (λ roles. roles ≡ roles_of (twice self.old here.now)) }
         ensures taken { OnOk result (self.new ≡ taken_up self.old here.now) }
     {
         let above = self.clashes_above(here);
-        let named = take_again(alloc, &mut self.roles, here.named.as_slice())?;
-        let refined = take_again(alloc, &mut self.roles, here.refined.as_slice())?;
+        let named = take_again(alloc, &mut self.roles, here.named.as_slice())?.is_second();
+        let refined = take_again(alloc, &mut self.roles, here.refined.as_slice())?.is_second();
         take_all(alloc, &mut self.refined, here.refined.as_slice())?;
         take_all(alloc, &mut self.bound, here.bound.as_slice())?;
         take_all(alloc, &mut self.put, here.put.as_slice())?;
         let with = self.clashes_with(here);
-        Ok((named || refined) || (above || with))
+        Ok(Roles::of((named || refined) || (above || with)))
     }
 }

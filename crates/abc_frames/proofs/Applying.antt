@@ -10,7 +10,7 @@ use Rattle.abc_num.specs.Text.{text_cmp}
 use Rattle.abc_value.specs.Tree.{Tree}
 use Rattle.abc_value.specs.Order.{order}
 use Rattle.abc_value.specs.Regular.{IsRegular}
-use Rattle.abc_value.proofs.OrderLaws.{order-same}
+use Rattle.abc_value.proofs.ordering.OrderLaws.{order-same}
 use Rattle.abc_frames.specs.declared.targets.TargetChange.{TargetChange}
 use Rattle.abc_frames.specs.Maps.{Targets, AreRising, AreRegular, value_of, with_value, without, with_state, is_same, told, change_of, changes_of, names_of_both, applied}
 use Rattle.abc_frames.specs.inner.Merging.{History, front_of, behind, IsRegularIfAny}

@@ -10,7 +10,7 @@ use Rattle.abc_tokens.specs.ReadLine.{read_line, judged}
 use Rattle.abc_tokens.specs.Scanned.{scanned}
 use Rattle.abc_tokens.specs.Tokens.{has_characters}
 use Rattle.abc_tokens.specs.declared.kinds.TokenFault.TheVariants.{BadByte}
-use Rattle.abc_value.proofs.Characters.{characters-append, characters-drop}
+use Rattle.abc_value.proofs.printed.Characters.{characters-append, characters-drop}
 use Rattle.abc_tree.specs.declared.commands.Environment.TheVariants as asks
 use Rattle.abc_record.specs.Kept.{IsKeptText}
 use Rattle.abc_outline.specs.Rows.{all_seen, read_of}

@@ -1,11 +1,10 @@
 -- The number falls, whatever waits below.
-use Rattle.std.proofs.Common.{◌≡◌, ◌<◌, ◌≤◌, ◌⊎◌, ℕ, zero, suc, ◌+◌, ◌*◌, ◌^◌, List, inl, inr, Result, Ok, Err, refl, sym, ap, ◌∙◌, subst, arith, rules}
+use Rattle.std.proofs.Common.{◌≡◌, ◌<◌, ℕ, zero, suc, ◌+◌, ◌*◌, ◌^◌, List, inl, inr, Result, Ok, Err, refl, sym, arith}
 use Rattle.std.proofs.Math.Nat.{mul-lt-mul_of_pos_right, add-mul, mul-add, mul_comm, mul_assoc, pow-zero, pow-suc, pow-succ', zero-mul}
 use Rattle.std.proofs.Math.Numerals.{add-one}
 use Rattle.abc_tree.specs.declared.commands.Unit.{Unit as Routine}
 use Rattle.abc_pending.specs.Pending.{Frame}
 use Rattle.abc_pending.specs.Weights.{Falls, number_of, most_growth, units_size}
-use Rattle.abc_machine.specs.Pending.{given_weight, frames_weight}
 use Rattle.abc_machine.specs.Moves.{Weighs, Lessens}
 use Rattle.abc_machine.specs.declared.moves.Moved.{Moved}
 use Rattle.abc_machine.specs.declared.moves.Moved.TheVariants.{Goes, Ends}

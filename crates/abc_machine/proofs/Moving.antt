@@ -1,5 +1,5 @@
 -- How the pending work leads on.
-use Rattle.std.proofs.Common.{◌≡◌, ℕ, List, [], ◌∷◌, map, Result, Ok, Err, refl, sym, ap, ◌∙◌, subst}
+use Rattle.std.proofs.Common.{◌≡◌, ℕ, List, [], ◌∷◌, map, Result, Err, refl, sym, ap, ◌∙◌, subst}
 use Rattle.abc_tree.specs.declared.commands.Unit.{Unit as Routine}
 use Rattle.abc_meaning.specs.State.{State, Stop, Got, gives, stops, after}
 use Rattle.abc_meaning.specs.Here.{Scope}

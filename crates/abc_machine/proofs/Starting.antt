@@ -10,8 +10,8 @@ use Rattle.abc_meaning.specs.State.{State}
 use Rattle.abc_meaning.specs.Here.{Scope, in_command}
 use Rattle.abc_meaning.specs.Meaning.{meaning}
 use Rattle.abc_meaning.specs.Ran.{standing, starting}
-use Rattle.abc_acts.specs.Views.{at, state_of}
-use Rattle.abc_acts.specs.declared.run.Run.{Run}
+use Rattle.abc_state.specs.Views.{at, state_of}
+use Rattle.abc_state.specs.declared.run.Run.{Run}
 use Rattle.abc_pending.specs.Leads.{as_flow, leads}
 use Rattle.abc_pending.specs.Steps.{state_with}
 use Rattle.abc_pending.specs.Views.{frame_of}

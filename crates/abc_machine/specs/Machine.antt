@@ -5,7 +5,7 @@ use Rattle.abc_frames.specs.Maps.{Targets}
 use Rattle.abc_outside.specs.Lines.{Unread}
 use Rattle.abc_meaning.specs.State.{State, Got, stops, wrong, wants}
 use Rattle.abc_meaning.specs.Here.{Scope}
-use Rattle.abc_acts.specs.Views.{scope_of}
+use Rattle.abc_state.specs.Views.{scope_of}
 use Rattle.abc_pending.specs.Pending.{Answer, Frame}
 use Rattle.abc_pending.specs.Leads.{leads}
 use Rattle.abc_pending.specs.Steps.{state_with}

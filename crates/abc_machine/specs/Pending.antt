@@ -4,7 +4,7 @@ use Rattle.abc_tree.specs.declared.commands.Unit.{Unit as Routine}
 use Rattle.abc_meaning.specs.State.{State, Got, gives}
 use Rattle.abc_meaning.specs.Here.{Scope}
 use Rattle.abc_meaning.specs.Meaning.{meaning}
-use Rattle.abc_acts.specs.Views.{at}
+use Rattle.abc_state.specs.Views.{at}
 use Rattle.abc_pending.specs.Pending.{Answer, Frame}
 use Rattle.abc_pending.specs.Leads.{as_flow, below, now}
 use Rattle.abc_pending.specs.Views.{reply_of, job_of}

@@ -9,7 +9,7 @@ ghost use Rattle.abc_outside.specs.Outside.{RoseByOne};
 ghost use Rattle.abc_meaning.specs.Laws.{wants_line};
 ghost use Rattle.abc_meaning.specs.Meaning.{meaning};
 ghost use Rattle.abc_meaning.specs.Ran.{standing, starting};
-ghost use Rattle.abc_acts.specs.Views.{scope_of};
+ghost use Rattle.abc_state.specs.Views.{scope_of};
 ghost use Rattle.abc_pending.specs.Leads.{as_flow, leads};
 ghost use Rattle.abc_pending.specs.Steps.{state_with};
 ghost use Rattle.abc_pending.specs.Views.{frame_of};
@@ -18,12 +18,12 @@ ghost use Rattle.abc_machine.specs.Pending.{given, given_weight, frames_weight};
 
 use crate::moves::{Moved, advance};
 use crate::outcome::{RunStop, Stepped};
-use abc_acts::{Run, Scope};
 use abc_frames::Targets;
 use abc_num::limits::MOST_DEPTH;
 use abc_num::{OutOfMemory, Stack, Text};
 use abc_outside::Lines;
 use abc_pending::{Doing, Place, Waiting};
+use abc_state::{Run, Scope};
 use abc_tree::{Command, Units};
 use std::alloc::Global;
 

@@ -8,9 +8,9 @@ ghost use Rattle.abc_outside.specs.Outside.{RoseByOne};
 ghost use Rattle.abc_meaning.specs.State.{State, Got, gives};
 ghost use Rattle.abc_meaning.specs.Here.{Scope as Names};
 ghost use Rattle.abc_meaning.specs.Laws.{wants_line};
-ghost use Rattle.abc_acts.specs.Agrees.{Halts};
-ghost use Rattle.abc_acts.specs.Views.{scope_of, state_of};
-ghost use Rattle.abc_acts.specs.declared.halt.Halt.TheVariants.{Fault};
+ghost use Rattle.abc_state.specs.Agrees.{Halts};
+ghost use Rattle.abc_state.specs.Views.{scope_of, state_of};
+ghost use Rattle.abc_state.specs.declared.halt.Halt.TheVariants.{Fault};
 ghost use Rattle.abc_pending.specs.Pending.{Answer, Frame};
 ghost use Rattle.abc_pending.specs.Leads.{leads, now};
 ghost use Rattle.abc_pending.specs.Steps.{state_with};
@@ -23,13 +23,12 @@ ghost use Rattle.abc_machine.specs.Pending.{given, given_weight, frames_weight, 
 ghost use Rattle.abc_machine.specs.Moves.{Follows, IfGoes, Weighs, Lessens, EndsWell};
 
 use crate::outcome::{Outcome, RunStop};
-use abc_acts::{Exit, Halt, Run, Scope};
 use abc_frames::Targets;
 use abc_num::Stack;
 use abc_outside::Lines;
-use abc_pending::{
-    Doing, Halted, Next, Place, Reply, Stopped, Waiting, Work, begin, begin_item, take_up,
-};
+use abc_pending::{Doing, Halted, Next, Place, Reply, Stopped, Waiting, Work};
+use abc_state::{Exit, Halt, Run, Scope};
+use abc_steps::{begin, begin_item, take_up};
 use abc_tree::{Action, Units};
 use abc_value::RunFault;
 use std::alloc::Global;

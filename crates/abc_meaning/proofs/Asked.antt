@@ -5,7 +5,7 @@ use Rattle.std.specs.List.{AllByRecursion}
 use Rattle.std.specs.Option.{IfSome}
 use Rattle.abc_num.specs.Characters.{are_characters}
 use Rattle.abc_num.specs.declared.lines.RawLine.{RawLine}
-use Rattle.abc_tree.specs.RegularItems.{Part, line, value, address, test, parts_of, parts_of_unit}
+use Rattle.abc_tree.specs.RegularItems.{Part, line, value, address, test, parts_of_unit}
 use Rattle.abc_tree.specs.declared.operations.Op.{Op}
 use Rattle.abc_tree.specs.declared.formulas.Expr.{Expr}
 use Rattle.abc_tree.specs.declared.formulas.Test.{Test}

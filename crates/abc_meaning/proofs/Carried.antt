@@ -1,65 +1,35 @@
 -- What is said of values is carried over to what is made of them: fields, names, addresses. And what is said of a tree, to its parts.
-use Rattle.std.proofs.Common.{◌≡◌, refl, ap, subst, sym, ℕ, zero, suc, Bool, true, false, not, ◌&&◌, List, [], ◌∷◌, ◌++◌, map, Option, Some, None, Result, Ok, Err, if◌then◌else◌, is_some}
-use Rattle.std.specs.Prelude.{length, nat_le, slice_get, option_and_then, option_map}
-use Rattle.std.specs.List.{list_all, AllByRecursion}
+use Rattle.std.proofs.Common.{◌≡◌, refl, subst, sym, ℕ, zero, suc, Bool, true, false, ◌&&◌, List, [], ◌∷◌, ◌++◌, map, Option, Some, None, if◌then◌else◌}
+use Rattle.std.specs.Prelude.{slice_get, option_and_then, option_map}
+use Rattle.std.specs.List.{AllByRecursion}
 use Rattle.std.specs.Option.{IfSome}
 use Rattle.std.specs.declared.cmp.Ordering.{Ordering}
 use Rattle.std.specs.declared.cmp.Ordering.TheVariants.{Less, Equal, Greater}
 use Rattle.std.specs.Ordering.{match_ordering}
-use Rattle.abc_num.specs.Characters.{are_characters}
 use Rattle.abc_num.specs.Text.{text_eq}
-use Rattle.abc_num.specs.declared.limits.TheConstants.{MOST_TREE_HEIGHT}
-use Rattle.abc_num.specs.declared.lines.RawLine.{RawLine}
-use Rattle.abc_tree.specs.RegularItems.{Part, bound_names, formal_names, refinement_by}
+use Rattle.abc_tree.specs.RegularItems.{refinement_by}
 use Rattle.abc_tree.specs.Templates.{template_cmp}
-use Rattle.abc_tree.specs.Units.{unit_of, key as template_of}
-use Rattle.abc_tree.specs.declared.operations.Op.{Op}
+use Rattle.abc_tree.specs.Units.{unit_of}
 use Rattle.abc_tree.specs.declared.templates.Template.{Template}
-use Rattle.abc_tree.specs.declared.formulas.Expr.{Expr, out-Expr}
-use Rattle.abc_tree.specs.declared.formulas.Piece.{Piece, out-Piece}
-use Rattle.abc_tree.specs.declared.formulas.Fill.{Fill, out-Fill}
-use Rattle.abc_tree.specs.declared.formulas.Pair.{Pair, out-Pair}
-use Rattle.abc_tree.specs.declared.formulas.Expr.TheOpen.{Expr-F, Fill-F, Piece-F, Pair-F}
-use Rattle.abc_tree.specs.declared.formulas.Link.{Link}
 use Rattle.abc_tree.specs.declared.formulas.Bound.{Bound, roll-Bound, map-Bound}
 use Rattle.abc_tree.specs.declared.formulas.Bound.TheOpen.{Bound-F}
 use Rattle.abc_tree.specs.declared.formulas.Bound.TheFolds.{fold-roll-Bound, ind-Bound}
-use Rattle.abc_tree.specs.declared.formulas.Quantifier.{Quantifier}
-use Rattle.abc_tree.specs.declared.formulas.Test.{Test, out-Test}
-use Rattle.abc_tree.specs.declared.formulas.Test.TheOpen.{Test-F}
-use Rattle.abc_tree.specs.declared.commands.Action.{Action, out-Action}
-use Rattle.abc_tree.specs.declared.commands.ActionNode.{ActionNode, out-ActionNode}
-use Rattle.abc_tree.specs.declared.commands.ActionNode.TheOpen.{ActionNode-F}
-use Rattle.abc_tree.specs.declared.commands.Alternative.{Alternative, out-Alternative}
 use Rattle.abc_tree.specs.declared.commands.Refinement.{Refinement}
 use Rattle.abc_tree.specs.declared.commands.Unit.{Unit as Routine}
-use Rattle.abc_value.specs.declared.faults.ValueFault.{ValueFault}
-use Rattle.abc_value.specs.declared.faults.RunFault.{RunFault}
-use Rattle.abc_value.specs.declared.faults.RunFault.TheVariants.{NoValue, NotAnAddress}
 use Rattle.abc_value.specs.Tree.{Tree, Trees, number, text, compound, list, table, no_trees, more, trees, listed}
 use Rattle.abc_value.specs.Forms.{Form, both, form_of, elements_form}
-use Rattle.abc_value.specs.Items.{elements_of, range_of}
-use Rattle.abc_value.specs.Parts.{parts_of, pairs_of}
-use Rattle.abc_value.specs.Changes.{associate_of}
-use Rattle.abc_frames.specs.Maps.{Targets, Frame, value_of, with_value, without, value_at, with_value_at, without_at}
-use Rattle.abc_print.specs.Computed.{literal_of}
-use Rattle.abc_meaning.specs.State.{key, Address, Addresses, place, several, no_addresses, more_addresses, Formal, State, Stop, gives, stops, Run, after, becomes, Flow, goes_on, quits, returns, reports}
-use Rattle.abc_meaning.specs.Here.{Here, Scope, in_command, in_unit, fault, is_bound, line_in, at_line, within, spend, look, value_in, target_at, assign, assign_in, refinement_named, refinement_at, names_in}
-use Rattle.abc_meaning.specs.Deeper.{Deeper, Actual}
-use Rattle.abc_meaning.specs.Fits.{has_type, have_range, gives_value, train_elements}
-use Rattle.abc_meaning.specs.Bindings.{Bindings, at_fields, at_compound, bindings_over, assign_all, set_names, bind, bindings, held}
-use Rattle.abc_meaning.specs.Calls.{then_on, apart, undone, returned, reported, with_bindings, suite, body_over, entered, called, function_call, predicate_call, refined, expression_refinement, test_refinement}
-use Rattle.abc_meaning.specs.Value.{answer, row_answer, composed, there, selected, range, values, piece, pieces, Wording, filled, fillers, Filling, paired, entries, Tabling, name_value, value_with}
-use Rattle.abc_meaning.specs.Holds.{decides, if_decided, compared, chain, quantified, over_train, refinement_test, holds_with}
-use Rattle.abc_meaning.specs.Changing.{Change, Changed, Part as Place, marked, marking, mark, assigned, change, changed, formal_named, fielded, fielded_all, parts, parts_all, put_parts, put_fields, put, delete, change_list, puts, inserts, removes, deletes}
-use Rattle.abc_meaning.specs.Addresses.{stepped, onto, gathered, together as all_together, whole, address_list, address_with, address_within, address}
-use Rattle.abc_meaning.specs.Reading.{take_line, raw_value, of_form, literal_value}
-use Rattle.abc_meaning.specs.Actuals.{located, name_actual, gather, Gathered, actual_with, actuals}
-use Rattle.abc_meaning.specs.PutBack.{Entry, entry, named, with_formal, along, has_value, mark_all, delete_there, put_at, put_formal, put_one, put_back, body_with, called_with, command_call, command_refinement}
-use Rattle.abc_meaning.specs.Acts.{say, checked, written, succeeds, select, turns, each, each_of, acts_with}
-use Rattle.abc_meaning.specs.Meaning.{meaning}
-use Rattle.abc_meaning.proofs.Opened.{together, one_more, InPiece, InFill, InPair, InLayer, InTestLayer, InNode, InWay, in_expr, in_test, in_action, in_body, in_refinements}
-use Rattle.abc_meaning.proofs.Asked.{Facts, placing, Any, HasAny, HaveAll, HavePairs, HasStep, HaveSteps, HasAddress, HaveAddresses, HasAddressIfAny, HasPlace, HasChange, HasFlow, HasActual, OwnLine, FitsExpr, FitsTest, FitsPart, FitsAction, FitsSuite, FitsUnit, FitsScope, IsPlace, AreKept, Good, IsLaw, IsGood}
+use Rattle.abc_value.specs.Items.{elements_of}
+use Rattle.abc_meaning.specs.State.{key, Address, Addresses, place, several, no_addresses, more_addresses}
+use Rattle.abc_meaning.specs.Here.{Here, Scope, in_command, in_unit, line_in, at_line, within, refinement_named, refinement_at, names_in}
+use Rattle.abc_meaning.specs.Fits.{train_elements}
+use Rattle.abc_meaning.specs.Bindings.{Bindings, at_fields, at_compound, bindings_over, bindings}
+use Rattle.abc_meaning.specs.Calls.{suite}
+use Rattle.abc_meaning.specs.Value.{values}
+use Rattle.abc_meaning.specs.Changing.{Part as Place, fielded, fielded_all, parts, parts_all}
+use Rattle.abc_meaning.specs.Addresses.{stepped, onto, gathered, together as all_together}
+use Rattle.abc_meaning.specs.Acts.{each}
+use Rattle.abc_meaning.proofs.Opened.{together, one_more, in_refinements}
+use Rattle.abc_meaning.proofs.Asked.{Facts, HasAny, HaveAll, HasStep, HasAddress, HaveAddresses, HasAddressIfAny, HasPlace, OwnLine, FitsPart, FitsSuite, FitsUnit, FitsScope, IsPlace, AreKept}
 
 pub left : (a b : Bool) → (a && b) ≡ true → a ≡ true
 left true b e = refl

@@ -1,5 +1,5 @@
 -- At the end of the input no line is wanted.
-use Rattle.std.proofs.Common.{◌≡◌, ◌+◌, ℕ, zero, suc, Bool, true, false, List, [], ◌∷◌, refl, sym, ◌∙◌}
+use Rattle.std.proofs.Common.{◌≡◌, ◌+◌, ℕ, zero, suc, Bool, true, false, List, [], ◌∷◌, refl, ◌∙◌}
 use Rattle.std.specs.Prelude.{length, nat_lt}
 use Rattle.abc_num.specs.declared.limits.TheConstants.{MOST_OUTPUT}
 use Rattle.abc_num.specs.declared.lines.RawLine.{RawLine}

@@ -4,14 +4,12 @@ use Rattle.std.specs.Prelude.{length, nat_lt, ◌+◌, ◌==◌}
 use Rattle.std.specs.List.{AllByRecursion}
 use Rattle.abc_num.specs.declared.limits.TheConstants.{MOST_OUTPUT}
 use Rattle.abc_num.specs.declared.lines.RawLine.{RawLine}
-use Rattle.abc_tree.specs.declared.commands.Unit.{Unit as Routine}
 use Rattle.abc_meaning.specs.State.{Formal, State, Got, gives, stops, Run, after}
 use Rattle.abc_meaning.specs.Here.{Here, spend_of}
 use Rattle.abc_meaning.specs.Deeper.{Deeper}
 use Rattle.abc_meaning.specs.Changing.{formal_named, marked}
 use Rattle.abc_meaning.specs.Reading.{taken}
 use Rattle.abc_meaning.specs.Acts.{say_unless}
-use Rattle.abc_meaning.specs.Meaning.{meaning}
 use Rattle.abc_meaning.specs.Laws.{end_of, EachKeeps, HasPlace, StaysInPlace, OnlyPlacesAreMarked}
 use Rattle.abc_frames.specs.Maps.{value_of, value_at}
 use Rattle.abc_meaning.proofs.Asked.{Any, IsLaw}

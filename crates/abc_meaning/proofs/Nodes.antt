@@ -1,13 +1,12 @@
 -- One induction over all nodes, for all laws: what the steps of a run have, each node has.
-use Rattle.std.proofs.Common.{◌≡◌, refl, ap, ℕ, zero, suc, Bool, true, false, not, ◌&&◌, List, [], ◌∷◌, ◌++◌, map, Option, Some, None, Result, Ok, Err, if◌then◌else◌, is_some}
+use Rattle.std.proofs.Common.{◌≡◌, refl, ap, ℕ, zero, suc, Bool, true, false, not, ◌&&◌, List, [], ◌∷◌, map, Option, Some, None, Result, Ok, Err, if◌then◌else◌, is_some}
 use Rattle.std.specs.Prelude.{length, nat_le}
 use Rattle.std.specs.List.{list_all, AllByRecursion}
 use Rattle.std.specs.Option.{IfSome}
 use Rattle.abc_num.specs.Characters.{are_characters}
 use Rattle.abc_num.specs.declared.limits.TheConstants.{MOST_TREE_HEIGHT}
 use Rattle.abc_num.specs.declared.lines.RawLine.{RawLine}
-use Rattle.abc_tree.specs.RegularItems.{Part, bound_names, formal_names, line, value, address, test}
-use Rattle.abc_tree.specs.Units.{unit_of}
+use Rattle.abc_tree.specs.RegularItems.{bound_names, formal_names, line, value, address, test}
 use Rattle.abc_tree.specs.declared.operations.Op.{Op}
 use Rattle.abc_tree.specs.declared.formulas.Expr.{Expr, out-Expr}
 use Rattle.abc_tree.specs.declared.formulas.Piece.{Piece, out-Piece}
@@ -35,25 +34,25 @@ use Rattle.abc_value.specs.Changes.{associate_of}
 use Rattle.abc_value.specs.Items.{range_of}
 use Rattle.abc_frames.specs.Maps.{Targets, Frame, value_of, with_value, without, value_at, with_value_at, without_at}
 use Rattle.abc_print.specs.Computed.{literal_of}
-use Rattle.abc_meaning.specs.State.{key, Address, place, several, Formal, State, Stop, gives, stops, Run, after, becomes, Flow, goes_on, quits, returns, reports}
-use Rattle.abc_meaning.specs.Here.{Here, Scope, fault, is_bound, at_line, within, spend, look, value_in, target_at, assign, assign_in, refinement_named, refinement_at}
+use Rattle.abc_meaning.specs.State.{key, Address, place, several, Formal, Stop, gives, stops, Run, after, becomes, Flow, goes_on, quits, returns, reports}
+use Rattle.abc_meaning.specs.Here.{Here, Scope, fault, is_bound, within, look, value_in, target_at, assign, assign_in}
 use Rattle.abc_meaning.specs.Deeper.{Deeper, Actual}
-use Rattle.abc_meaning.specs.Fits.{has_type, have_range, train_elements, is_test as is_test_of}
+use Rattle.abc_meaning.specs.Fits.{has_type, have_range, is_test as is_test_of}
 use Rattle.abc_meaning.specs.Bindings.{Bindings, at_fields, assign_all, set_names, bind, bindings, held}
 use Rattle.abc_meaning.specs.Calls.{then_on, apart, undone, returned, reported, with_bindings, suite, body_over, entered, called, function_call, predicate_call, refined, expression_refinement, test_refinement}
 use Rattle.abc_meaning.specs.Value.{answer, row_answer, composed, there, selected, range, values, piece, pieces, Wording, filled, fillers, Filling, paired, entries, Tabling, name_value, value_with}
 use Rattle.abc_meaning.specs.Holds.{decides, if_decided, compared, chain, quantified, over_train, refinement_test, holds_with}
 use Rattle.abc_meaning.specs.Changing.{Change, Changed, Part as Place, marked, marking, mark, assigned, change, changed, formal_named, fielded, parts, put_parts, put_fields, put, delete, change_list, puts, inserts, removes, deletes}
-use Rattle.abc_meaning.specs.Addresses.{stepped, together as all_together, whole, address_list, address_with, address_within, address as address_at}
-use Rattle.abc_meaning.specs.Reading.{take_line, raw_value, of_form, literal_value}
+use Rattle.abc_meaning.specs.Addresses.{whole, address_list, address_with, address_within, address as address_at}
+use Rattle.abc_meaning.specs.Reading.{raw_value, of_form, literal_value}
 use Rattle.abc_meaning.specs.Actuals.{located, name_actual, gather, Gathered, actual_with, actuals}
 use Rattle.abc_meaning.specs.PutBack.{Entry, entry, named, with_formal, along, has_value, mark_all, delete_there, put_at, put_formal, put_one, put_back, body_with, called_with, command_call, command_refinement}
-use Rattle.abc_meaning.specs.Acts.{say, checked, written, succeeds, select, turns, each, each_of, acts_with}
+use Rattle.abc_meaning.specs.Acts.{checked, written, succeeds, select, turns, each, each_of, acts_with}
 use Rattle.abc_meaning.specs.Meaning.{meaning}
 use Rattle.abc_meaning.proofs.Opened.{together, one_more, InPiece, InFill, InPair, InLayer, InTestLayer, InNode, InWay, in_expr, in_test, in_action, in_body}
 use Rattle.abc_meaning.specs.Laws.{is_wanting}
 use Rattle.abc_meaning.proofs.Decided.{IsDecided, decided}
-use Rattle.abc_meaning.proofs.Asked.{Facts, placing, Any, HasAny, HaveAll, HavePairs, HaveSteps, HasAddress, HasAddressIfAny, HasPlace, HasChange, HasFlow, HasActual, OwnLine, FitsExpr, FitsTest, FitsPart, FitsAction, FitsSuite, FitsUnit, FitsScope, IsPlace, AreKept, IsLaw, IsGood}
+use Rattle.abc_meaning.proofs.Asked.{Facts, placing, Any, HasAny, HaveAll, HavePairs, HasAddress, HasAddressIfAny, HasPlace, HasChange, HasFlow, HasActual, FitsExpr, FitsTest, FitsPart, FitsSuite, FitsUnit, IsPlace, AreKept, IsLaw, IsGood}
 use Rattle.abc_meaning.proofs.Carried.{left, right, HaveBindings, HaveHeld, HavePlaces, HaveFields, if_any, to_names, listed_all, at_fields_have, binds, all_bind, fielded_has, train_have, parts_have, stepped_has, together_has, unit_fits, FitsRefinement, refinement_fits, name_fits, at_own_line, within_unit}
 
 module _ (facts : Facts) (P : (A : Type 0) → (A → Type 0) → Run A → Type 0) (law : IsLaw facts P) (kept : AreKept facts) where

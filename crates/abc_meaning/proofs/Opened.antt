@@ -4,28 +4,28 @@ use Rattle.std.specs.List.{AllByRecursion}
 use Rattle.std.specs.Option.{IfSome}
 use Rattle.abc_num.specs.Number.{Fraction}
 use Rattle.abc_tree.specs.Lists.{flat}
-use Rattle.abc_tree.specs.RegularItems.{Part, Parts, Way, here, inside, early, early_else, ways, tested, is_else, line, value, address, test, bound, written_part, parts_of, suite_parts, parts_of_unit, node_parts, action_parts, way_of}
-use Rattle.abc_tree.specs.declared.formulas.Expr.{Expr, fold-Expr, roll-Expr, out-Expr, map-Expr}
+use Rattle.abc_tree.specs.RegularItems.{Part, Parts, Way, here, early, ways, tested, line, value, address, test, written_part, parts_of, suite_parts, parts_of_unit, node_parts, action_parts, way_of}
+use Rattle.abc_tree.specs.declared.formulas.Expr.{Expr, out-Expr, map-Expr}
 use Rattle.abc_tree.specs.declared.formulas.Expr.TheOpen.{Expr-F, Fill-F, Piece-F, Pair-F}
 use Rattle.abc_tree.specs.declared.formulas.Expr.TheViews.{roll-out-Expr, roll-out-Fill, roll-out-Piece, roll-out-Pair}
 use Rattle.abc_tree.specs.declared.formulas.Expr.TheFolds.{fold-roll-Expr, fold-roll-Fill, fold-roll-Piece, fold-roll-Pair}
-use Rattle.abc_tree.specs.declared.formulas.Fill.{Fill, fold-Fill, roll-Fill, out-Fill, map-Fill}
-use Rattle.abc_tree.specs.declared.formulas.Piece.{Piece, fold-Piece, roll-Piece, out-Piece, map-Piece}
-use Rattle.abc_tree.specs.declared.formulas.Pair.{Pair, fold-Pair, roll-Pair, out-Pair, map-Pair}
+use Rattle.abc_tree.specs.declared.formulas.Fill.{Fill, fold-Fill, out-Fill, map-Fill}
+use Rattle.abc_tree.specs.declared.formulas.Piece.{Piece, fold-Piece, out-Piece, map-Piece}
+use Rattle.abc_tree.specs.declared.formulas.Pair.{Pair, fold-Pair, out-Pair, map-Pair}
 use Rattle.abc_tree.specs.declared.formulas.Link.{Link}
-use Rattle.abc_tree.specs.declared.formulas.Test.{Test, roll-Test, out-Test, map-Test}
+use Rattle.abc_tree.specs.declared.formulas.Test.{Test, out-Test, map-Test}
 use Rattle.abc_tree.specs.declared.formulas.Test.TheOpen.{Test-F}
 use Rattle.abc_tree.specs.declared.formulas.Test.TheViews.{roll-out-Test}
 use Rattle.abc_tree.specs.declared.formulas.Test.TheFolds.{fold-roll-Test}
-use Rattle.abc_tree.specs.declared.commands.Action.{Action, out-Action, roll-Action, map-Action}
-use Rattle.abc_tree.specs.declared.commands.ActionNode.{ActionNode, fold-ActionNode, out-ActionNode, roll-ActionNode, map-ActionNode}
+use Rattle.abc_tree.specs.declared.commands.Action.{Action, out-Action, map-Action}
+use Rattle.abc_tree.specs.declared.commands.ActionNode.{ActionNode, fold-ActionNode, out-ActionNode, map-ActionNode}
 use Rattle.abc_tree.specs.declared.commands.ActionNode.TheOpen.{Action-F, ActionNode-F, Alternative-F}
 use Rattle.abc_tree.specs.declared.commands.ActionNode.TheViews.{roll-out-Action, roll-out-ActionNode, roll-out-Alternative}
 use Rattle.abc_tree.specs.declared.commands.ActionNode.TheFolds.{fold-roll-ActionNode, fold-roll-Action, fold-roll-Alternative}
-use Rattle.abc_tree.specs.declared.commands.Alternative.{Alternative, fold-Alternative, out-Alternative, roll-Alternative, map-Alternative}
+use Rattle.abc_tree.specs.declared.commands.Alternative.{Alternative, fold-Alternative, out-Alternative, map-Alternative}
 use Rattle.abc_tree.specs.declared.commands.Refinement.{Refinement}
 use Rattle.abc_tree.specs.declared.commands.Unit.{Unit as Routine}
-use Rattle.abc_meaning.specs.Written.{Numbers, piece_numbers, fill_numbers, pair_numbers, expression_numbers, numbers_in, test_numbers, numbers_in_test, numbers_in_part}
+use Rattle.abc_meaning.specs.Written.{Numbers, piece_numbers, fill_numbers, pair_numbers, expression_numbers, numbers_in, test_numbers, numbers_in_test}
 
 -- ---- lists
 

@@ -1,26 +1,25 @@
 -- What a line spells is a value, where the line is no longer than a text may be.
-use Rattle.std.proofs.Common.{◌≡◌, ◌≢◌, ℕ, suc, ◌+◌, ◌-◌, ◌≤◌, Bool, true, false, if◌then◌else◌, List, [], ◌∷◌, length, map, take, drop, Option, Some, None, Ok, refl, sym, ◌∙◌, ap, subst, arith}
-use Rattle.std.specs.Prelude.{◌==◌, ◌||◌, slice_range, nat_le}
+use Rattle.std.proofs.Common.{◌≡◌, ℕ, suc, ◌-◌, ◌≤◌, Bool, true, false, if◌then◌else◌, List, [], ◌∷◌, length, map, drop, Option, Some, None, Ok, refl, ap, subst, arith}
+use Rattle.std.specs.Prelude.{◌==◌, ◌||◌, nat_le}
 use Rattle.std.specs.List.{AllByRecursion}
 use Rattle.std.specs.Option.{IfSome}
 use Rattle.std.proofs.lemmas.Bool.Decides.{nat_tests}
 use Rattle.abc_num.specs.declared.limits.TheConstants.{MOST_ELEMENTS}
 use Rattle.abc_num.specs.Characters.{IsCharacter, AreCharacters}
 use Rattle.abc_num.specs.Number.{Fraction, IsNumber}
-use Rattle.abc_num.specs.Ratio.{HasValue}
 use Rattle.abc_num.proofs.Ratios.{IsRatio-number}
 use Rattle.abc_tokens.specs.declared.kinds.Token.{Token}
 use Rattle.abc_tokens.specs.Bytes.{backquote}
 use Rattle.abc_value.specs.declared.faults.ValueFault.{ValueFault}
-use Rattle.abc_value.specs.Tree.{Tree, number, text, compound, trees}
+use Rattle.abc_value.specs.Tree.{Tree, text, compound, trees}
 use Rattle.abc_value.specs.Regular.{IsRegular}
 use Rattle.abc_value.specs.Sizes.{size_fault}
 use Rattle.abc_value.specs.Items as items
-use Rattle.abc_value.proofs.Making.{text_regular}
+use Rattle.abc_value.proofs.trees.Making.{text_regular}
 use Rattle.abc_predef.proofs.Codes.{take_short, drop_short}
-use Rattle.abc_print.specs.Lexemes.{Seen, seen, before, content, IsSigned, unsigned, positive, negative, IsNumeral, whole, divided, HasLexemes, none, numeral, quoted, sign, IsLiteralLine}
+use Rattle.abc_print.specs.Lexemes.{Seen, seen, before, content, IsSigned, unsigned, positive, negative, IsNumeral, whole, divided, HasLexemes, numeral, quoted, sign, IsLiteralLine}
 use Rattle.abc_print.specs.Literals as spelled
-use Rattle.abc_print.specs.Literals.{by_fault, if_small, fielded, listed, tabled, IsPart, AreParts, ArePairs, IsLiteral}
+use Rattle.abc_print.specs.Literals.{by_fault, if_small, fielded, IsPart, AreParts, ArePairs}
 use Rattle.abc_print.specs.Computed.{literal_of}
 use Rattle.abc_print.specs.Laws.{LinesAreComputed}
 use Rattle.abc_print.proofs.OneValue.{signed_number}

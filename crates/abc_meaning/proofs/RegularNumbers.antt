@@ -1,5 +1,5 @@
 -- The operations on numbers give numbers.
-use Rattle.std.proofs.Common.{◌≡◌, ◌≢◌, ℕ, zero, suc, ◌+◌, ◌*◌, ◌/◌, ◌%◌, ◌^◌, ◌<◌, ◌≤◌, ℤ, pos, negsuc, ◌*ℤ◌, neg_ℤ, unsigned_abs, Bool, true, false, if◌then◌else◌, Option, Some, None, Result, Ok, Err, refl, sym, ◌∙◌, ap, subst, arith, inl, inr}
+use Rattle.std.proofs.Common.{◌≡◌, ◌≢◌, ℕ, zero, suc, ◌+◌, ◌*◌, ◌/◌, ◌%◌, ◌^◌, ◌<◌, ◌≤◌, ℤ, pos, negsuc, neg_ℤ, unsigned_abs, Bool, true, false, if◌then◌else◌, Option, Some, None, Result, Ok, Err, refl, sym, ◌∙◌, ap, subst, arith, inl, inr}
 use Rattle.std.specs.Prelude.{nat_eq}
 use Rattle.std.specs.Int.{int_pow, int_signum}
 use Rattle.std.proofs.lemmas.Bool.{cases_eq}
@@ -9,19 +9,19 @@ use Rattle.std.proofs.lemmas.Int.{ints}
 use Rattle.std.proofs.Math.Nat.{div-le_self, mod-lt}
 use Rattle.abc_num.specs.declared.number.NumFault.{NumFault}
 use Rattle.abc_num.specs.declared.number.NumFault.TheVariants.{DivisionByZero}
-use Rattle.abc_num.specs.Number.{Fraction, fraction, signed, whole_number, whole_of, IsNumber}
+use Rattle.abc_num.specs.Number.{Fraction, signed, whole_number, whole_of, IsNumber}
 use Rattle.abc_num.specs.Ratio.{ratio, IsRatio}
 use Rattle.abc_num.specs.Rounding.{floor_of, nearest_of, away_of}
 use Rattle.abc_num.proofs.Computed.{ratio_has_value}
 use Rattle.abc_num.proofs.Digits.{power-positive}
-use Rattle.abc_num.proofs.LowestTerms.{whole_is_number, number_lowest, number_parts, number-from_parts, bounds, signed-not}
+use Rattle.abc_num.proofs.LowestTerms.{whole_is_number, number_parts, number-from_parts, bounds}
 use Rattle.abc_num.proofs.Nearest.{nearest-signed}
 use Rattle.abc_num.proofs.Order.{denominator-positive}
 use Rattle.abc_num.proofs.Powers.{int_pow-even, int_pow-odd}
 use Rattle.abc_num.proofs.Ratios.{IsRatio-number, pos_ne, product_pos}
 use Rattle.abc_num.proofs.Signs.{signed_size, factor_ne}
 use Rattle.abc_print.proofs.OneValue.{signed_number}
-use Rattle.abc_predef.specs.Numbers.{unless_zero, is_zero, sum_of, difference_of, product_of, quotient_of, rest_of, whole_power, power_to, power_of, whole_rounding, rounding_to, rounding_of, negative_of, size_of, sign_of, floor_number, ceiling_number, nearest_number}
+use Rattle.abc_predef.specs.Numbers.{unless_zero, sum_of, difference_of, product_of, quotient_of, rest_of, whole_power, power_to, power_of, whole_rounding, rounding_to, rounding_of, negative_of, size_of, sign_of, floor_number, ceiling_number, nearest_number}
 
 -- ---- what a ratio gives
 

@@ -1,8 +1,8 @@
 -- What an operation gives of values is a value.
-use Rattle.std.proofs.Common.{◌≡◌, ℕ, zero, suc, ◌+◌, ◌-◌, ◌*◌, ◌/◌, ◌^◌, ◌<◌, ◌≤◌, ℤ, pos, negsuc, unsigned_abs, Bool, true, false, if◌then◌else◌, List, [], ◌∷◌, ◌++◌, length, map, take, drop, Option, Some, None, Result, Ok, Err, refl, sym, ◌∙◌, ap, subst, arith}
+use Rattle.std.proofs.Common.{◌≡◌, ℕ, zero, suc, ◌+◌, ◌-◌, ◌*◌, ◌/◌, ◌^◌, ◌<◌, ◌≤◌, ℤ, pos, negsuc, unsigned_abs, Bool, true, false, if◌then◌else◌, List, [], ◌∷◌, ◌++◌, length, map, take, drop, Option, Some, None, Result, Ok, Err, refl, sym, ap, subst, arith}
 use Rattle.std.specs.Prelude.{nat_lt, nat_le, ◌&&◌, ◌*ℤ◌, replicate, slice_get, cond}
-use Rattle.std.specs.List.{AllByRecursion, filter, repeat, slice_split, onto_first, count_by}
-use Rattle.std.specs.Option.{IfSome, ok_or}
+use Rattle.std.specs.List.{AllByRecursion, filter, repeat, slice_split, onto_first}
+use Rattle.std.specs.Option.{ok_or}
 use Rattle.std.specs.Ordering.{is_eq, is_lt, is_gt}
 use Rattle.std.specs.declared.cmp.Ordering.TheVariants.{Less}
 use Rattle.std.proofs.lemmas.Bool.Decides.{nat_tests}
@@ -22,17 +22,17 @@ use Rattle.abc_value.specs.declared.faults.ValueFault.{ValueFault}
 use Rattle.abc_value.specs.declared.faults.ValueFault.TheVariants as value_fault
 use Rattle.abc_value.specs.declared.faults.ValueFault.TheVariants.{NoElement}
 use Rattle.abc_value.specs.declared.faults.RunFault.{RunFault}
-use Rattle.abc_value.specs.Tree.{Tree, Trees, Pairs, number, text, compound, list, table, no_trees, more, no_pairs, pair, trees, pairs, listed, listed_pairs, table_of}
+use Rattle.abc_value.specs.Tree.{Tree, Trees, Pairs, number, text, compound, list, table, no_trees, more, no_pairs, pair, trees, pairs, listed, listed_pairs}
 use Rattle.abc_value.specs.Order.{order}
-use Rattle.abc_value.specs.Parts.{parts_of, codes_of, keys_of, pairs_of}
+use Rattle.abc_value.specs.Parts.{codes_of, keys_of}
 use Rattle.abc_value.specs.Printed.{outer}
-use Rattle.abc_value.specs.Regular.{IsRegular, AllRegular, AllRegularPairs, IsOrdered, IsRising}
+use Rattle.abc_value.specs.Regular.{IsRegular, IsRising}
 use Rattle.abc_value.specs.Sizes.{length_of, count, count_pairs, size_fault}
 use Rattle.abc_value.specs.Items.{elements_of, element_at, item_of, if_small, by_fault}
-use Rattle.abc_value.proofs.Keys.{keys_ordered}
-use Rattle.abc_value.proofs.Making.{text_regular}
-use Rattle.abc_value.proofs.Outers.{outer_characters}
-use Rattle.abc_value.proofs.Characters.{characters-append}
+use Rattle.abc_value.proofs.tables.Keys.{keys_ordered}
+use Rattle.abc_value.proofs.trees.Making.{text_regular}
+use Rattle.abc_value.proofs.printed.Outers.{outer_characters}
+use Rattle.abc_value.proofs.printed.Characters.{characters-append}
 use Rattle.abc_predef.specs.Aligned.{between_spaces}
 use Rattle.abc_predef.specs.Answers.{of_number_answer, of_value_answer}
 use Rattle.abc_predef.specs.Characters.{space}

@@ -1,5 +1,5 @@
 -- What is made of values is a value: compounds, texts, displays, ranges, parts and changed parts.
-use Rattle.std.proofs.Common.{◌≡◌, ◌⊎◌, inl, inr, ℕ, zero, suc, ◌+◌, ◌<◌, ◌≤◌, max, ℤ, pos, negsuc, ◌+ℤ◌, ◌-ℤ◌, ◌≤ℤ◌, neg_ℤ, unsigned_abs, ◌^◌, Bool, true, false, if◌then◌else◌, List, [], ◌∷◌, length, map, get_or, Option, Some, None, Result, Ok, Err, refl, sym, ◌∙◌, ap, subst, arith}
+use Rattle.std.proofs.Common.{◌≡◌, ◌⊎◌, inl, inr, ℕ, zero, suc, ◌+◌, ◌<◌, ◌≤◌, ℤ, pos, negsuc, ◌+ℤ◌, ◌-ℤ◌, ◌≤ℤ◌, unsigned_abs, ◌^◌, Bool, true, false, if◌then◌else◌, List, [], ◌∷◌, length, map, get_or, Option, Some, None, Result, Ok, Err, refl, sym, ◌∙◌, ap, subst, arith}
 use Rattle.std.specs.Prelude.{nat_le, nat_eq, ◌-◌, is_some}
 use Rattle.std.specs.Option.{option_map}
 use Rattle.std.specs.List.{AllByRecursion, remove}
@@ -8,9 +8,8 @@ use Rattle.std.specs.Ordering.{match_ordering, is_eq}
 use Rattle.std.specs.declared.cmp.Ordering.{Ordering}
 use Rattle.std.specs.declared.cmp.Ordering.TheVariants.{Less, Equal, Greater}
 use Rattle.std.proofs.lemmas.Bool.Decides.{nat_tests}
-use Rattle.std.proofs.lemmas.Bool.{cases_eq}
 use Rattle.std.proofs.lemmas.Int.{ints}
-use Rattle.abc_num.specs.declared.limits.TheConstants.{MOST_ELEMENTS, FIRST_CHARACTER, LAST_CHARACTER}
+use Rattle.abc_num.specs.declared.limits.TheConstants.{FIRST_CHARACTER, LAST_CHARACTER}
 use Rattle.abc_num.specs.Characters.{IsCharacter, AreCharacters, are_characters}
 use Rattle.abc_num.specs.Number.{Fraction, whole_number, whole_of, IsNumber}
 use Rattle.abc_num.proofs.Characters.{tested_characters}
@@ -21,22 +20,21 @@ use Rattle.abc_value.specs.declared.faults.RunFault.TheVariants.{NoElement, NoKe
 use Rattle.abc_value.specs.Tree.{Tree, Trees, Pairs, number, text, compound, list, table, empty, no_trees, more, no_pairs, pair, trees, pairs, listed, listed_pairs, table_of}
 use Rattle.abc_value.specs.Order.{order}
 use Rattle.abc_value.specs.Parts.{parts_of, pairs_of, keys_of}
-use Rattle.abc_value.specs.Sizes.{size_fault, sizes_fault, trees_height, trees_weight, pairs_height, pairs_weight}
-use Rattle.abc_value.specs.Regular.{IsRegular, AllRegular, AllRegularPairs, IsOrdered, IsRising, IsSmall}
+use Rattle.abc_value.specs.Sizes.{size_fault, trees_height, trees_weight, pairs_height, pairs_weight}
+use Rattle.abc_value.specs.Regular.{IsRegular, AllRegular, AllRegularPairs, IsOrdered, IsRising}
 use Rattle.abc_value.specs.Forms.{Form, Forms, a_compound, a_list, a_table, anything, both, form_of, forms_of, joined, common_key, common_associate}
 use Rattle.abc_value.specs.Changes.{add, in_order, with_pair, with_new, associate_of, placed, without, without_key, is_element}
 use Rattle.abc_value.specs.Items.{if_small, by_fault, elements_of, range_of, number_range, character_range, numbers_from, characters_from, count_of}
-use Rattle.abc_value.proofs.Adding.{AreSmall, small_sizes, add_adds, add_ordered}
-use Rattle.abc_value.proofs.Collecting.{table_fault}
-use Rattle.abc_value.proofs.Keys.{keys_ordered}
-use Rattle.abc_value.proofs.Making.{compound_fault, compound_invariant, text_regular}
-use Rattle.abc_value.proofs.Pairing.{with_pair_rising, remove_loses, Loses}
-use Rattle.abc_value.proofs.Ranges.{list_fault, list_invariant, numbers_ordered, characters_ordered}
-use Rattle.abc_value.proofs.Removing.{taken_invariant}
-use Rattle.abc_value.proofs.Rows.{trees_listed, pairs_listed}
-use Rattle.abc_value.proofs.Tables.{table_regular, lost_invariant}
-use Rattle.abc_meaning.specs.State.{Step, key, faulty, wrong, Stop}
-use Rattle.abc_meaning.specs.Fits.{agree, fits_list, fits_table}
+use Rattle.abc_value.proofs.lists.Adding.{small_sizes, add_ordered}
+use Rattle.abc_value.proofs.tables.Collecting.{table_fault}
+use Rattle.abc_value.proofs.trees.Making.{compound_fault, compound_invariant, text_regular}
+use Rattle.abc_value.proofs.tables.Pairing.{with_pair_rising, remove_loses, Loses}
+use Rattle.abc_value.proofs.lists.Ranges.{list_fault, list_invariant, numbers_ordered, characters_ordered}
+use Rattle.abc_value.proofs.lists.Removing.{taken_invariant}
+use Rattle.abc_value.proofs.trees.Rows.{trees_listed, pairs_listed}
+use Rattle.abc_value.proofs.tables.Tables.{table_regular, lost_invariant}
+use Rattle.abc_meaning.specs.State.{Step, key, faulty}
+use Rattle.abc_meaning.specs.Fits.{fits_list, fits_table}
 use Rattle.abc_meaning.specs.Changing.{Change, puts, inserts, removes, deletes, Changed, sized, if_fit, changed_to, with_associate, changed}
 use Rattle.abc_meaning.proofs.RegularNumbers.{whole_is}
 

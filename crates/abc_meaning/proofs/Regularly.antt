@@ -1,5 +1,5 @@
 -- Values stay regular.
-use Rattle.std.proofs.Common.{◌≡◌, ◌+◌, ◌≤◌, ℕ, zero, suc, Bool, true, false, List, [], ◌∷◌, ◌++◌, map, take, Option, Some, None, refl, subst, arith, if◌then◌else◌, is_some}
+use Rattle.std.proofs.Common.{◌+◌, ℕ, zero, suc, Bool, true, false, List, [], ◌∷◌, map, Some, refl, arith, if◌then◌else◌}
 use Rattle.std.specs.Prelude.{length, nat_lt, cond, ◌==◌}
 use Rattle.std.specs.List.{AllByRecursion}
 use Rattle.std.specs.Option.{IfSome}
@@ -9,28 +9,27 @@ use Rattle.std.specs.Ordering.{match_ordering}
 use Rattle.std.specs.declared.cmp.Ordering.{Ordering}
 use Rattle.std.specs.declared.cmp.Ordering.TheVariants.{Less, Equal, Greater}
 use Rattle.std.proofs.lemmas.List.{length-take}
-use Rattle.abc_num.specs.Lines.{raw_line, raw_lines, without_cr, cut_at_lf}
-use Rattle.abc_num.specs.Number.{Fraction, IsNumber}
+use Rattle.abc_num.specs.Lines.{raw_line, without_cr, cut_at_lf}
+use Rattle.abc_num.specs.Number.{IsNumber}
 use Rattle.abc_num.specs.declared.limits.TheConstants.{MOST_OUTPUT, MOST_LINE_BYTES}
 use Rattle.abc_num.specs.declared.lines.RawLine.{RawLine}
 use Rattle.abc_num.proofs.Characters.{tested_characters}
 use Rattle.abc_tree.specs.RegularItems.{Part, Parts, line, value, address, example, test, bound, quits, returns, reports, calls, refinement, early_else, parts_of, parts_of_unit}
-use Rattle.abc_tree.specs.declared.commands.Action.{out-Action}
 use Rattle.abc_tree.specs.declared.commands.Unit.{Unit as Routine}
 use Rattle.abc_value.specs.Tree.{Tree, number}
 use Rattle.abc_value.specs.Regular.{IsRegular}
 use Rattle.abc_value.specs.Parts.{pairs_of}
-use Rattle.abc_value.proofs.Making.{text_regular}
-use Rattle.abc_frames.specs.Maps.{Targets, Frame, AreRegular}
+use Rattle.abc_value.proofs.trees.Making.{text_regular}
+use Rattle.abc_frames.specs.Maps.{Targets, AreRegular}
 use Rattle.abc_print.specs.Laws.{LinesAreComputed}
 use Rattle.abc_meaning.specs.State.{Formal, State, Got, gives, stops, Run, after, Flow}
 use Rattle.abc_meaning.specs.Here.{Here, Scope, in_command, in_unit, spend_of}
-use Rattle.abc_meaning.specs.Changing.{formal_named, marked}
+use Rattle.abc_meaning.specs.Changing.{marked}
 use Rattle.abc_meaning.specs.Reading.{taken}
 use Rattle.abc_meaning.specs.Acts.{say_unless}
 use Rattle.abc_meaning.specs.Meaning.{meaning}
 use Rattle.abc_meaning.specs.Ran.{ran_as, standing, starting}
-use Rattle.abc_meaning.specs.Written.{Numbers, numbers_in_part, numbers_in_parts, numbers_in_action, numbers_in_unit}
+use Rattle.abc_meaning.specs.Written.{Numbers, numbers_in_part, numbers_in_parts}
 use Rattle.abc_meaning.specs.Regular.{AreValues, HasKeys, IsShort, HasValues, AreNumbers, IsNumbered, IsNumberedScope, Leaves, ValuesStayRegular, TargetsStayRegular, InputLinesAreShort}
 use Rattle.abc_meaning.proofs.Opened.{each_of_flat}
 use Rattle.abc_meaning.proofs.Asked.{Facts, Any, OwnLine, FitsPart, FitsUnit, FitsScope, IsPlace, AreKept, IsLaw, IsGood}

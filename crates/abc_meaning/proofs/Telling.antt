@@ -1,27 +1,24 @@
 -- The line on which a run stops.
-use Rattle.std.proofs.Common.{◌≡◌, ◌+◌, ◌||◌, ℕ, zero, suc, Bool, true, false, List, [], ◌∷◌, ◌++◌, map, refl, sym, ◌∙◌, ap, subst}
+use Rattle.std.proofs.Common.{◌≡◌, ◌+◌, ◌||◌, ℕ, zero, suc, Bool, true, false, List, [], ◌∷◌, ◌++◌, refl, sym, ap, subst}
 use Rattle.std.specs.Prelude.{length, nat_lt, ◌==◌}
-use Rattle.std.specs.List.{AllByRecursion, list_any}
+use Rattle.std.specs.List.{AllByRecursion}
 use Rattle.std.proofs.lemmas.Bool.{eq-eqb, eqb-true}
 use Rattle.abc_num.specs.declared.limits.TheConstants.{MOST_OUTPUT}
 use Rattle.abc_num.specs.declared.lines.RawLine.{RawLine}
-use Rattle.abc_tree.specs.Lists.{flat}
 use Rattle.abc_tree.specs.RegularItems.{Part, Parts, line, value, address, example, test, bound, quits, returns, reports, calls, refinement, early_else, parts_of, line_of, lines_of, is_among}
-use Rattle.abc_tree.specs.declared.formulas.Expr.{Expr}
 use Rattle.abc_tree.specs.declared.commands.Action.{Action, out-Action}
 use Rattle.abc_tree.specs.declared.commands.Command.{Command}
 use Rattle.abc_tree.specs.declared.commands.Unit.{Unit as Routine}
 use Rattle.abc_frames.specs.Maps.{Targets, value_of, value_at}
 use Rattle.abc_meaning.specs.State.{State, Stop, Got, gives, stops, Run, after, Flow, goes_on, quits, returns, reports}
 use Rattle.abc_meaning.specs.Here.{Here, Scope, in_command, in_unit, spend_of}
-use Rattle.abc_meaning.specs.Deeper.{Deeper}
 use Rattle.abc_meaning.specs.Reading.{taken}
 use Rattle.abc_meaning.specs.Acts.{say_unless}
 use Rattle.abc_meaning.specs.Meaning.{meaning}
-use Rattle.abc_meaning.specs.Ran.{Outcome, done, quit, stopped, ran, ran_as, standing, starting}
-use Rattle.abc_meaning.specs.Laws.{lines_in, told_by, StopsAt, StopsAmong, EachTellsItsLine, StopsTellTheirLine, CommandTellsItsLine}
+use Rattle.abc_meaning.specs.Ran.{Outcome, stopped, ran_as, standing, starting}
+use Rattle.abc_meaning.specs.Laws.{lines_in, told_by, StopsAt, StopsAmong, StopsTellTheirLine, CommandTellsItsLine}
 use Rattle.abc_meaning.proofs.Opened.{in_action}
-use Rattle.abc_meaning.proofs.Asked.{Any, IsLaw, IsGood, IsPlace, OwnLine, FitsPart, FitsAction}
+use Rattle.abc_meaning.proofs.Asked.{Any, IsLaw, IsGood, IsPlace, OwnLine, FitsPart}
 use Rattle.abc_meaning.proofs.Nodes.{all_nodes}
 use Rattle.abc_meaning.proofs.Everywhere.{facts, any_kept, some_any, all_addresses, units_fit, scope_fits, expr_fits, test_fits}
 

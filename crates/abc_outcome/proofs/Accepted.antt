@@ -1,7 +1,5 @@
 -- Commands that are accepted over what a store holds.
-use Rattle.std.proofs.Common.{◌≡◌, ◌≤◌, ℕ, true, List, [], ◌∷◌, length, None, Some, Ok, sym, subst, arith}
-use Rattle.std.specs.Prelude.{Option}
-use Rattle.abc_num.specs.declared.limits.TheConstants.{MOST_LINES}
+use Rattle.std.proofs.Common.{◌≡◌, ◌≤◌, ℕ, true, List, [], ◌∷◌, length, None, Some, subst, arith}
 use Rattle.abc_num.proofs.Parts.{each_weaker}
 use Rattle.abc_tree.specs.Units.{AreRising as AreInOrder}
 use Rattle.abc_tree.specs.declared.commands.Command.{Command}

@@ -1,12 +1,12 @@
 -- The line that the search by halves finds is the least line with a call that leads there.
-use Rattle.std.proofs.Common.{◌≡◌, ◌<◌, ◌≤◌, ◌+◌, ℕ, zero, suc, min, Bool, true, false, ◌&&◌, ◌||◌, nat_le, cond, List, [], ◌∷◌, map, filter, Contains, Decides, ◌↔◌, refl, sym, ap, subst, ◌∙◌, arith, leb-true, leb-false, le-leb}
+use Rattle.std.proofs.Common.{◌≡◌, ◌<◌, ◌≤◌, ◌+◌, ℕ, zero, suc, min, Bool, true, false, ◌&&◌, ◌||◌, nat_le, cond, List, [], ◌∷◌, map, filter, Contains, ◌↔◌, refl, sym, ap, subst, ◌∙◌, arith, leb-true, leb-false, le-leb}
 use Rattle.std.proofs.lemmas.Bool.{lt-leb}
 use Rattle.std.specs.List.{list_any}
 use Rattle.std.specs.Bool.{one_answer}
 use Rattle.std.specs.declared.cmp.Ordering.{Ordering}
 use Rattle.std.specs.declared.cmp.Ordering.TheVariants.{Less, Equal, Greater}
 use Rattle.std.specs.Ordering.{match_ordering}
-use Rattle.abc_num.specs.Text.{text_cmp, text_eq}
+use Rattle.abc_num.specs.Text.{text_eq}
 use Rattle.abc_num.proofs.Texts.{text_eq-Decides}
 use Rattle.abc_tree.specs.Calls.{with_call, with_calls, calls_in_action, command_called_upto}
 use Rattle.abc_tree.specs.Lined.{Lined, upto}

@@ -1,6 +1,6 @@
 -- What a commit leaves of an item.
 use Rattle.std.proofs.Common.{◌≡◌, ◌⊎◌, ◌≤◌, ◌<◌, ◌&&◌, inl, inr, ℕ, suc, arith, Bool, true, false, List, [], ◌∷◌, ◌++◌, length, nat_lt, cond, refl, sym, ap, subst, ◌∙◌, codes}
-use Rattle.std.specs.Prelude.{OnOk, IsErrOf, IsTrue, Result, Ok, Err, Option, Some}
+use Rattle.std.specs.Prelude.{IsErrOf, IsTrue, Result, Ok, Err, Option, Some}
 use Rattle.std.specs.List.{list_all}
 use Rattle.std.proofs.lemmas.Bool.{le-leb, lt-leb}
 use Rattle.abc_num.specs.declared.limits.TheConstants.{MOST_TARGETS, MOST_UNITS, MOST_RECORD_BYTES}
@@ -20,12 +20,11 @@ use Rattle.abc_store.specs.declared.faults.CommitFault.{CommitFault}
 use Rattle.abc_store.specs.declared.faults.CommitFault.TheVariants as commit
 use Rattle.abc_store.specs.Workspace.{Workspace, changed_by, changes_between, checkpoint_of, with_routine, with_targets}
 use Rattle.abc_store.specs.Opening.{OpensTo}
-use Rattle.abc_store.specs.Commit.{Work, Holds, Refusal, kept_in, stored, stored_in, too_large, store_full, work_after, Tells, IsNoFault, IsDecided, IsTooLarge, StillOpens, OpensToEither}
+use Rattle.abc_store.specs.Commit.{Work, Holds, Refusal, kept_in, stored, too_large, store_full, work_after, Tells, IsNoFault, IsDecided, IsTooLarge, StillOpens, OpensToEither}
 use Rattle.abc_store.specs.View.{View, work_of}
 use Rattle.abc_outcome.specs.declared.answering.Answer.{Answer}
 use Rattle.abc_outcome.specs.declared.answering.AnswerFault.{AnswerFault}
 use Rattle.abc_outcome.specs.declared.answering.AnswerFault.TheVariants.{StoreFault, Memory}
-use Rattle.abc_num.specs.declared.lines.RawLine.{RawLine}
 use Rattle.abc_outcome.specs.Reply.{ended, fault_line, said}
 use Rattle.abc_outcome.specs.Spelled.{are_spelled_lines, has_spelling}
 use Rattle.abc_outcome.specs.Outcome.{Behind, Ending, ends_with, on_stored, kept_outcome, accepted, accepted_line, set_outcome, stored_if_spelled}

@@ -1,5 +1,5 @@
 -- What the computed walk reaches is what calls lead to.
-use Rattle.std.proofs.Common.{◌≡◌, ◌⊎◌, inl, inr, ◌<◌, ◌≤◌, ℕ, zero, suc, Bool, true, false, not, ◌&&◌, ◌||◌, List, [], ◌∷◌, length, map, filter, Option, Some, None, Contains, Decides, if◌then◌else◌, cond, refl, sym, ap, subst, ◌∙◌, arith}
+use Rattle.std.proofs.Common.{◌≡◌, ◌⊎◌, inl, inr, ◌<◌, ◌≤◌, ℕ, zero, suc, Bool, true, false, not, ◌||◌, List, [], ◌∷◌, length, map, filter, Option, Some, None, Contains, Decides, if◌then◌else◌, cond, refl, sym, ap, subst, ◌∙◌, arith}
 use Rattle.std.specs.List.{list_any}
 use Rattle.std.proofs.lemmas.List.{length-map}
 use Rattle.std.proofs.lemmas.Map.Views.{any-filter_same}
@@ -8,7 +8,7 @@ use Rattle.abc_num.proofs.Texts.{text_eq-Decides}
 use Rattle.abc_tree.specs.Lists.{flat}
 use Rattle.abc_tree.specs.Templates.{template_text}
 use Rattle.abc_tree.specs.declared.commands.Unit.{Unit as Routine}
-use Rattle.abc_groups.specs.Reach.{DoesCall, Way, Leads, IsFrom}
+use Rattle.abc_groups.specs.Reach.{Way, Leads, IsFrom}
 use Rattle.abc_groups.specs.Program.{Program, called, if_any, entry_of, texts}
 use Rattle.abc_groups.proofs.Texts.{eq_yes}
 use Rattle.abc_outcome.specs.Missing.{program, without, reached_within, reached, leads_to}

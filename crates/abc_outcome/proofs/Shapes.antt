@@ -1,5 +1,5 @@
 -- Each item is refused with a reply line and changes nothing, or answers ok, or wants a line.
-use Rattle.std.proofs.Common.{◌≡◌, ◌⊎◌, inl, inr, ◌<◌, ℕ, Bool, true, false, List, [], ◌∷◌, ◌++◌, length, nat_lt, decimal, codes, Option, None, Some, Result, Ok, Err, if◌then◌else◌, refl, sym, subst, arith, length-append}
+use Rattle.std.proofs.Common.{◌≡◌, ◌⊎◌, inl, inr, ◌<◌, ℕ, Bool, true, false, List, [], ◌∷◌, ◌++◌, length, nat_lt, decimal, codes, Option, None, Some, Result, Ok, Err, if◌then◌else◌, refl, subst, arith, length-append}
 use Rattle.std.specs.Map.{keys_of}
 use Rattle.abc_num.specs.declared.limits.TheConstants.{MOST_TARGETS, MOST_UNITS}
 use Rattle.abc_num.specs.declared.lines.Line.{Line}

@@ -1,5 +1,5 @@
 -- What an item comes to, by more lines and fewer.
-use Rattle.std.proofs.Common.{◌≡◌, ◌≤◌, ℕ, suc, Bool, true, false, List, [], ◌∷◌, ◌++◌, length, nat_lt, codes, Option, None, Some, Result, Ok, Err, if◌then◌else◌, refl, sym, ◌∙◌, ap, subst, arith, length-append}
+use Rattle.std.proofs.Common.{◌≡◌, ◌≤◌, ℕ, suc, Bool, true, false, List, [], ◌∷◌, ◌++◌, length, nat_lt, Option, None, Some, Result, Ok, Err, if◌then◌else◌, refl, sym, ◌∙◌, ap, subst, arith, length-append}
 use Rattle.std.specs.Map.{keys_of}
 use Rattle.abc_num.specs.declared.limits.TheConstants.{MOST_TARGETS, MOST_UNITS, MOST_DEPTH}
 use Rattle.abc_num.specs.declared.lines.Line.{Line}
@@ -12,7 +12,7 @@ use Rattle.abc_faults.specs.declared.fault.Fault.{Fault}
 use Rattle.abc_faults.specs.Faults.{item_fault}
 use Rattle.abc_parse.specs.Readings.{item_of}
 use Rattle.abc_frames.specs.Maps.{Targets}
-use Rattle.abc_meaning.specs.State.{Stop, State, Got, gives, stops, Flow, faulty, wrong}
+use Rattle.abc_meaning.specs.State.{Stop, Got, gives, stops, Flow, faulty, wrong}
 use Rattle.abc_meaning.specs.State as run
 use Rattle.abc_meaning.specs.Ran.{Outcome as End, done, quit, stopped, Ran, ran, ran_as, standing, starting}
 use Rattle.abc_meaning.specs.Meaning.{meaning}
@@ -23,13 +23,13 @@ use Rattle.abc_meaning.proofs.Longer.{command_is_same}
 use Rattle.abc_journal.specs.declared.layout.Bounds.{Bounds}
 use Rattle.abc_turns.specs.Session.{came, wants}
 use Rattle.abc_record.specs.declared.change.Change.TheVariants.{SetUnit, DropUnit}
-use Rattle.abc_store.specs.Workspace.{Workspace, changes_between, with_routine, with_targets}
+use Rattle.abc_store.specs.Workspace.{changes_between, with_routine, with_targets}
 use Rattle.abc_store.specs.Commit.{Work, Refusal, too_large, store_full, stored}
 use Rattle.abc_inquiry.specs.declared.answering.Answered.{Answered}
 use Rattle.abc_inquiry.specs.declared.answering.Answered.TheVariants.{Shows, Drops, NoUnit, NoTarget, TooLong}
 use Rattle.abc_inquiry.specs.Inquiry.{inquiry}
 use Rattle.abc_outcome.specs.Missing.{first_missing, called_by}
-use Rattle.abc_outcome.specs.Outcome.{Behind, Outcome, Ending, on_stored, stored_if_spelled, kept_outcome, on_stop, on_end, on_ran, run_of, run_outcome, unless_missing, unless_unfit, command_outcome, accepted, set_outcome, unit_outcome, on_inquiry, inquiry_outcome, without_unit, on_item, on_fault, outcome}
+use Rattle.abc_outcome.specs.Outcome.{Behind, Outcome, Ending, on_stored, stored_if_spelled, kept_outcome, on_stop, on_end, on_ran, run_of, run_outcome, unless_missing, unless_unfit, accepted, set_outcome, on_inquiry, without_unit, on_item, on_fault, outcome}
 use Rattle.abc_outcome.specs.Laws.{CameStays, LeavesNoMore, ComesAtEnd}
 
 -- ---- lines that a run leaves

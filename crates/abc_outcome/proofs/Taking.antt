@@ -1,6 +1,6 @@
 -- The lines that a run took, by what its calls tell.
-use Rattle.std.proofs.Common.{◌≡◌, ◌⊎◌, inl, inr, ℕ, suc, ◌+◌, ◌-◌, ◌≤◌, Bool, true, false, List, [], ◌∷◌, ◌++◌, length, take, Option, Some, None, refl, sym, ◌∙◌, ap, subst, arith, append_assoc, length-append}
-use Rattle.std.specs.Prelude.{Result, Ok, Err, IfOk, IsErrOf}
+use Rattle.std.proofs.Common.{◌≡◌, ◌⊎◌, inl, inr, ℕ, suc, ◌+◌, ◌-◌, ◌≤◌, Bool, true, false, List, [], ◌∷◌, ◌++◌, length, Option, Some, None, refl, sym, ◌∙◌, ap, subst, arith, append_assoc}
+use Rattle.std.specs.Prelude.{Ok, Err, IsErrOf}
 use Rattle.std.specs.List.{AllByRecursion}
 use Rattle.std.proofs.lemmas.List.{append_cancel_left}
 use Rattle.abc_num.specs.Lines.{raw_lines}
@@ -12,7 +12,7 @@ use Rattle.abc_tree.specs.declared.commands.Command.{Command}
 use Rattle.abc_tree.specs.declared.commands.Unit.{Unit as Routine}
 use Rattle.abc_frames.specs.Maps.{Targets}
 use Rattle.abc_meaning.specs.State.{wants}
-use Rattle.abc_meaning.specs.Ran.{Ran as Meant, Outcome as End, stopped, ran}
+use Rattle.abc_meaning.specs.Ran.{Ran as Meant, ran}
 use Rattle.abc_meaning.specs.Laws.{wants_more}
 use Rattle.abc_meaning.proofs.Longer.{command_is_same}
 use Rattle.abc_machine.specs.declared.outcome.RunStop.{RunStop}
@@ -21,9 +21,9 @@ use Rattle.abc_eval.specs.declared.outcome.Outcome.{Outcome}
 use Rattle.abc_eval.specs.declared.outcome.Outcome.TheVariants.{Done, Quit, Fault}
 use Rattle.abc_eval.specs.declared.running.Ran.{Ran}
 use Rattle.abc_eval.specs.Runs.{WantsLine, WantsThere, as_meant, outcome_of}
-use Rattle.abc_reader.specs.Asking.{Asked, Rises, AskedRising, next_ask}
+use Rattle.abc_reader.specs.Asking.{Asked, Rises, next_ask}
 use Rattle.abc_reader.specs.Lending.{SomeOf, EndsLine, CallsRead}
-use Rattle.abc_reader.specs.Reading.{Reading, IsReader, MayBe, MayFollow, WaitsAt, ReadLines, bytes_used, ends_at, lines_behind, unread_in}
+use Rattle.abc_reader.specs.Reading.{Reading, IsReader, MayBe, WaitsAt, bytes_used, ends_at, lines_behind, unread_in}
 use Rattle.abc_reader.proofs.Closed.{lines_ahead, lines_at_cut, lines_unused, lines_used, read_closed, read_ended, fewer_behind, same_ends}
 use Rattle.abc_reader.proofs.Asks.{none_asked}
 use Rattle.abc_reader.proofs.ReadingOn.{reads_none}

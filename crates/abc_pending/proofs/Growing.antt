@@ -2,7 +2,7 @@
 use Rattle.std.proofs.Common.{◌≡◌, ◌<◌, ◌⊎◌, ◌+◌, ◌*◌, ℕ, List, Result, Ok, Err, IfOk, inr, arith}
 use Rattle.std.proofs.Math.Nat.{add-mul}
 use Rattle.abc_tree.specs.declared.commands.Unit.{Unit as Routine}
-use Rattle.abc_acts.specs.declared.halt.Halt.{Halt}
+use Rattle.abc_state.specs.declared.halt.Halt.{Halt}
 use Rattle.abc_pending.specs.declared.pending.Next.{Next}
 use Rattle.abc_pending.specs.Views.{next_weight}
 use Rattle.abc_pending.specs.Weights.{most_growth, units_size}

@@ -20,8 +20,9 @@ use Rattle.abc_meaning.specs.Actuals.{Gathered, located, gather, actuals}
 use Rattle.abc_meaning.specs.PutBack.{called_with, command_refinement}
 use Rattle.abc_meaning.specs.Acts.{checked, select, turns, each, each_of}
 use Rattle.abc_meaning.specs.Meaning.{meaning}
-use Rattle.abc_acts.specs.Views.{at}
-use Rattle.abc_acts.specs.Words.{ranged, filled_with, paired_with, with_conversion, write_out, leaving_to}
+use Rattle.abc_state.specs.Views.{at}
+use Rattle.abc_state.specs.Words.{ranged, filled_with, paired_with, with_conversion, write_out}
+use Rattle.abc_acts.specs.Words.{leaving_to}
 use Rattle.abc_pending.specs.declared.place.Place.{Place}
 use Rattle.abc_pending.specs.declared.place.Wanted.{Wanted}
 use Rattle.abc_pending.specs.declared.place.Wanted.TheVariants.{Value, Truth}

@@ -5,12 +5,12 @@ use Rattle.abc_frames.specs.Maps.{Targets}
 use Rattle.abc_outside.specs.Lines.{Unread, lines_in}
 use Rattle.abc_meaning.specs.State.{State, Got, stops, wants}
 use Rattle.abc_meaning.specs.Here.{Scope}
-use Rattle.abc_acts.specs.Views.{state_of}
-use Rattle.abc_acts.specs.Agrees.{Halts}
-use Rattle.abc_acts.specs.declared.run.Run.{Run}
-use Rattle.abc_acts.specs.declared.halt.Halt.TheVariants.{Fault}
-use Rattle.abc_acts.specs.declared.reading.LineHalt.{LineHalt}
-use Rattle.abc_acts.specs.declared.reading.LineHalt.TheVariants.{Fault as LineFault, Long as NoEnd, Input as NoInput}
+use Rattle.abc_state.specs.Views.{state_of}
+use Rattle.abc_state.specs.Agrees.{Halts}
+use Rattle.abc_state.specs.declared.run.Run.{Run}
+use Rattle.abc_state.specs.declared.halt.Halt.TheVariants.{Fault}
+use Rattle.abc_state.specs.declared.reading.LineHalt.{LineHalt}
+use Rattle.abc_state.specs.declared.reading.LineHalt.TheVariants.{Fault as LineFault, Long as NoEnd, Input as NoInput}
 use Rattle.abc_tree.specs.declared.formulas.Expr.{Expr}
 use Rattle.abc_tree.specs.declared.formulas.Fill.{Fill}
 use Rattle.abc_tree.specs.declared.formulas.Piece.{Piece}

@@ -1,23 +1,18 @@
-//! The pending work of the stack machine that runs commands: what waits and what is done now, and how each piece of it begins and goes
-//! on.
+//! The pending work of the stack machine that runs commands: what waits, what is done now, what each piece of it leads to and weighs, and
+//! the values that are found without work of their own.
 #![tactic(auto)]
 
-mod actuals;
-mod calls;
-mod commands;
-mod dispatch;
-mod expressions;
+mod at_once;
 mod pending;
-mod performing;
 mod place;
 mod replies;
 mod stopped;
-mod testing;
 
-pub use dispatch::{begin, begin_item, take_up};
+pub use at_once::value_at_once;
 pub use pending::{
     Doing, ForAction, ForActual, ForExpression, ForFlow, ForSpot, ForTest, ForTruth, Job, Leaves,
     Next, Purpose, Reply, Waiting, Work,
 };
 pub use place::{Changes, Place, Wanted};
+pub use replies::{actual_in, exit_in, spot_in, truth_in, value_in};
 pub use stopped::{Halted, Stopped};

@@ -1,10 +1,9 @@
 //! The pending work: what waits for an answer, and what is done now. It refers to nodes of the tree and copies none.
 use crate::place::{Changes, Place, Wanted};
-use abc_acts::{
-    Actual, CallNames, Entry, Exit, Filling, Held, Scope, Spot, Tabling, Train, Wording,
-};
+use abc_acts::{Entry, Held, Train};
 use abc_frames::Kept;
 use abc_num::{Boxed, Items, Text};
+use abc_state::{Actual, CallNames, Exit, Filling, Scope, Spot, Tabling, Wording};
 use abc_tree::{
     Action, Alternatives, Bound, Expr, Fill, Link, Op, Pair, Piece, Quantifier, Suite, Template,
     Test,

@@ -1,12 +1,12 @@
 //! What a reply holds, if it is of the kind that is waited for.
 ghost use Rattle.std.specs.Prelude.{◌≡◌, IfNone, IfSome, option_map};
-ghost use Rattle.abc_acts.specs.Views.{actual_of, address_of, flow_of};
+ghost use Rattle.abc_state.specs.Views.{actual_of, address_of, flow_of};
 ghost use Rattle.abc_pending.specs.Pending.{actual, address, flow, truth, val};
 ghost use Rattle.abc_pending.specs.Steps.{IsNoActual, IsNoAddress, IsNoFlow, IsNoTruth, IsNoValue};
 ghost use Rattle.abc_pending.specs.Views.{reply_of};
 
 use crate::pending::Reply;
-use abc_acts::{Actual, Exit, Spot};
+use abc_state::{Actual, Exit, Spot};
 use abc_value::Value;
 
 /// The value that a reply is, if it is one.

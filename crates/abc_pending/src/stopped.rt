@@ -1,5 +1,6 @@
 //! Why a step of the pending work gives nothing.
-use abc_acts::Halt;
+
+use abc_state::Halt;
 
 /// A halt, and the line of the item on which it is told.
 #[derive(Clone, Copy, PartialEq, Eq, Debug)]

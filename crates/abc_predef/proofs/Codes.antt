@@ -12,7 +12,7 @@ use Rattle.std.proofs.lemmas.Bool.Decides.{nat_tests}
 use Rattle.abc_predef.specs.declared.characters.Case.{Case}
 use Rattle.abc_predef.specs.declared.characters.Case.TheVariants.{Capital, Small}
 use Rattle.abc_predef.specs.Texts.{in_case, is_space, without_leading, stripped}
-use Rattle.abc_value.proofs.Characters.{characters-append}
+use Rattle.abc_value.proofs.printed.Characters.{characters-append}
 use Rattle.std.proofs.lemmas.Option.{slice_get_within, get_or_from_slice_get}
 use Rattle.std.proofs.lemmas.List.{append-nil, nil_from_length, take_more, length-append, length-take, length-drop, append_assoc, length-reverse, reverse-append}
 

@@ -8,9 +8,9 @@ use Rattle.abc_num.specs.Types.{IsTrainOf}
 use Rattle.abc_value.specs.Tree.{Tree}
 use Rattle.abc_value.specs.Types.{has, IsCollection}
 use Rattle.abc_value.specs.Forms.{Form, anything, a_number, a_text, a_collection, a_compound, a_list, a_table, both, fits, Fits, joined, form_of, elements_form}
-use Rattle.abc_value.proofs.Grounds.{list_part, key_part}
-use Rattle.abc_value.proofs.Joins.{joined_fits, fits_joined, number_list, number_table, text_list, text_table, compound_list, compound_table, list_table}
-use Rattle.abc_value.proofs.Shaping.{has_form, form_has, a_type, elements_exact}
+use Rattle.abc_value.proofs.forms.Grounds.{list_part, key_part}
+use Rattle.abc_value.proofs.forms.Joins.{joined_fits, fits_joined, number_list, number_table, text_list, text_table, compound_list, compound_table, list_table}
+use Rattle.abc_value.proofs.forms.Shaping.{has_form, form_has, a_type, elements_exact}
 use Rattle.abc_predef.specs.declared.table.Letter.{Letter}
 use Rattle.abc_predef.specs.declared.table.Letter.TheVariants as letter
 use Rattle.abc_predef.specs.declared.table.Operands.{Operands}

@@ -10,7 +10,7 @@ use Rattle.abc_value.specs.declared.faults.ValueFault.{ValueFault}
 use Rattle.abc_value.specs.declared.faults.ValueFault.TheVariants.{OutOfRange}
 use Rattle.abc_value.specs.Items.{IsTrain, IsAnswer, elements_of, item_of}
 use Rattle.abc_value.specs.Items as items
-use Rattle.abc_value.proofs.Rows.{trees_listed}
+use Rattle.abc_value.proofs.trees.Rows.{trees_listed}
 use Rattle.abc_predef.specs.inner.Places.{element_at}
 use Rattle.abc_predef.proofs.Codes.{nothing_left}
 

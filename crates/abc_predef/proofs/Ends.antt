@@ -12,8 +12,8 @@ use Rattle.abc_value.specs.Order.{order}
 use Rattle.abc_value.specs.Regular.{IsRegular, AllRegular, IsOrdered}
 use Rattle.abc_value.specs.Parts.{IsList}
 use Rattle.abc_value.specs.Items.{elements_of}
-use Rattle.abc_value.proofs.OrderLaws.{order-reverse, order-same}
-use Rattle.abc_value.proofs.Placing.{regular_at, rising}
+use Rattle.abc_value.proofs.ordering.OrderLaws.{order-reverse, order-same}
+use Rattle.abc_value.proofs.lists.Placing.{regular_at, rising}
 use Rattle.abc_predef.specs.declared.extremes.Extreme.TheVariants.{Least, Greatest}
 use Rattle.abc_predef.specs.declared.trains.Side.{Side}
 use Rattle.abc_predef.specs.declared.trains.Side.TheVariants.{Below, UpTo}

@@ -11,7 +11,7 @@ use Rattle.std.proofs.lemmas.List.Sums.{sum_by-append}
 use Rattle.abc_value.specs.Tree.{Tree, trees}
 use Rattle.abc_value.specs.Order.{order}
 use Rattle.abc_value.specs.Regular.{IsRegular, AllRegular, IsOrdered}
-use Rattle.abc_value.proofs.Placing.{less_before, at_most, regular_at, rising}
+use Rattle.abc_value.proofs.lists.Placing.{less_before, at_most, regular_at, rising}
 use Rattle.abc_predef.specs.declared.trains.Side.{Side}
 use Rattle.abc_predef.specs.declared.trains.Side.TheVariants.{Below, UpTo}
 use Rattle.abc_value.specs.Items.{elements_of}

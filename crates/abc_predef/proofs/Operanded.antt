@@ -8,7 +8,7 @@ use Rattle.abc_value.specs.Tree.{Tree, number, text, compound, list, table, no_t
 use Rattle.abc_value.specs.Types.{has, IsCollection}
 use Rattle.abc_value.specs.Parts.{IsText, IsTable}
 use Rattle.abc_value.specs.Items.{IsTrain}
-use Rattle.abc_value.proofs.Shaping.{of_number, of_fields, of_text}
+use Rattle.abc_value.proofs.forms.Shaping.{of_number, of_fields, of_text}
 use Rattle.abc_predef.specs.declared.table.Letter.{Letter}
 use Rattle.abc_predef.specs.declared.table.Letter.TheVariants as letter
 use Rattle.abc_predef.specs.declared.table.Operands.TheVariants.{One, Two}

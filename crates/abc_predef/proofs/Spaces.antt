@@ -2,7 +2,7 @@
 use Rattle.std.proofs.Common.{ℕ, zero, suc, List, ◌++◌, arith}
 use Rattle.std.specs.Prelude.{replicate}
 use Rattle.abc_value.specs.Regular.{AreCharacters}
-use Rattle.abc_value.proofs.Characters.{characters-append}
+use Rattle.abc_value.proofs.printed.Characters.{characters-append}
 use Rattle.abc_predef.specs.Aligned.{between_spaces}
 use Rattle.abc_predef.specs.Characters.{space}
 

@@ -14,11 +14,11 @@ use Rattle.abc_value.specs.Regular.{IsRegular, AllRegularPairs, IsRising}
 use Rattle.abc_value.specs.Parts.{IsTable, keys_of, parts_of}
 use Rattle.abc_value.specs.Changes.{add}
 use Rattle.abc_value.specs.Items.{IsAnswer}
-use Rattle.abc_value.proofs.Itemised.{only_memory}
+use Rattle.abc_value.proofs.trees.Itemised.{only_memory}
 use Rattle.abc_predef.proofs.Codes.{nothing_left, take_next}
-use Rattle.abc_value.proofs.Adding.{no_fault}
-use Rattle.abc_value.proofs.RisingKeys.{tail_rising, Below, below_all}
-use Rattle.abc_value.proofs.Rows.{listed_trees, count_trees}
+use Rattle.abc_value.proofs.lists.Adding.{no_fault}
+use Rattle.abc_value.proofs.tables.RisingKeys.{tail_rising, Below, below_all}
+use Rattle.abc_value.proofs.trees.Rows.{listed_trees, count_trees}
 
 -- e goes behind what is less
 pub add_last : (e : Tree) (xs : List Tree) → AllByRecursion (λ x. order x e ≡ Less) xs → add e xs ≡ xs ++ e ∷ []

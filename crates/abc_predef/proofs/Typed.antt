@@ -10,8 +10,8 @@ use Rattle.abc_value.specs.Order.{order}
 use Rattle.abc_value.specs.Types.{has, all_have, pairs_have}
 use Rattle.abc_value.specs.Parts.{parts_of, pairs_of}
 use Rattle.abc_value.specs.Changes.{add, with_pair}
-use Rattle.abc_value.proofs.Grounds.{list_part, key_part, associate_part}
-use Rattle.abc_value.proofs.Rows.{trees_listed, pairs_listed}
+use Rattle.abc_value.proofs.forms.Grounds.{list_part, key_part, associate_part}
+use Rattle.abc_value.proofs.trees.Rows.{trees_listed, pairs_listed}
 
 -- lists of one type
 pub typed_parts : (t : Tree) (g : Ground) → has t (type.List g) → all_have (trees (parts_of t)) g

@@ -8,9 +8,9 @@ use Rattle.abc_value.specs.declared.faults.ValueFault.TheVariants.{Memory}
 use Rattle.abc_value.specs.Tree.{Tree, table_of}
 use Rattle.abc_value.specs.Sizes.{size_fault}
 use Rattle.abc_value.specs.Regular.{AreCharacters}
-use Rattle.abc_value.proofs.Itemised.{only_memory}
+use Rattle.abc_value.proofs.trees.Itemised.{only_memory}
 use Rattle.std.proofs.lemmas.List.Sums.{prefix_len-le-length}
-use Rattle.abc_value.proofs.Characters.{characters-drop}
+use Rattle.abc_value.proofs.printed.Characters.{characters-drop}
 use Rattle.abc_predef.specs.Texts.{is_space, has_characters, words_of, numbered}
 use Rattle.abc_predef.specs.inner.Places.{with_word}
 use Rattle.abc_predef.proofs.Words.{spent, words_step, with_next, next_is, next_spent, next_full, words_small}

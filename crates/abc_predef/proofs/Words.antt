@@ -20,8 +20,8 @@ use Rattle.abc_value.specs.Order.{order}
 use Rattle.abc_value.specs.Sizes.{length_of, pairs_height, pairs_weight, count_pairs, size_fault}
 use Rattle.abc_value.specs.Parts.{pairs_of}
 use Rattle.abc_value.specs.Changes.{with_pair}
-use Rattle.abc_value.proofs.Adding.{no_fault}
-use Rattle.abc_value.proofs.Rows.{pairs_of_table, count_pairs_pairs}
+use Rattle.abc_value.proofs.lists.Adding.{no_fault}
+use Rattle.abc_value.proofs.trees.Rows.{pairs_of_table, count_pairs_pairs}
 use Rattle.abc_predef.specs.Texts.{is_space, has_characters, words_of, numbered}
 use Rattle.abc_predef.specs.inner.Places.{with_word}
 

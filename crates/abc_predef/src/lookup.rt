@@ -2,7 +2,7 @@
 ghost use Rattle.std.specs.Prelude.{◌≡◌, ◌<◌, Some, slice_get};
 ghost use Rattle.std.specs.Option.{option_map};
 ghost use Rattle.abc_predef.specs.declared.table.TheConstants.{TABLE};
-ghost use Rattle.abc_predef.specs.Order.{named, key_of};
+ghost use Rattle.abc_predef.specs.Order.{named, key_of, places_of};
 ghost use Rattle.abc_predef.specs.Signatures.{operands, result_of};
 ghost use Rattle.abc_predef.specs.Spellings.{spelling};
 
@@ -45,16 +45,42 @@ fn place_of(op: Op) -> usize
 {
     match op {
         Op::Size => 0,
+        Op::Numerator => 4,
+        Op::Plus => 5,
+        Op::Negate => 7,
+        Op::Denominator => 10,
+        Op::Abs => 23,
+        Op::Ceiling => 24,
+        Op::Floor => 25,
+        Op::Keys => 28,
+        Op::Lower => 29,
+        Op::Greatest => 30,
+        Op::Least => 32,
+        Op::Round => 36,
+        Op::Sign => 38,
+        Op::Split => 39,
+        Op::Stripped => 40,
+        Op::Upper => 41,
+        _ => place_of_pair(op),
+    }
+}
+
+/// The same of an operation that has two places.
+fn place_of_pair(op: Op) -> usize
+    requires { places_of (operands op) ≡ 2 }
+    ensures within { result < 43 }
+    ensures op { option_map (λ r. r.op) (slice_get TABLE result) ≡ Some op }
+    ensures operands { option_map (λ r. r.operands) (slice_get TABLE result) ≡ Some (operands op) }
+    ensures result { option_map (λ r. r.result) (slice_get TABLE result) ≡ Some (result_of op) }
+    ensures spelled { option_map key_of (slice_get TABLE result) ≡ Some (spelling op) }
+{
+    match op {
         Op::Count => 1,
         Op::Multiply => 2,
         Op::Power => 3,
-        Op::Numerator => 4,
-        Op::Plus => 5,
         Op::Add => 6,
-        Op::Negate => 7,
         Op::Subtract => 8,
         Op::Divide => 9,
-        Op::Denominator => 10,
         Op::Less => 11,
         Op::AlignLeft => 12,
         Op::AtMost => 13,
@@ -67,25 +93,14 @@ fn place_of(op: Op) -> usize
         Op::Behead => 20,
         Op::Join => 21,
         Op::Repeat => 22,
-        Op::Abs => 23,
-        Op::Ceiling => 24,
-        Op::Floor => 25,
         Op::In => 26,
         Op::Item => 27,
-        Op::Keys => 28,
-        Op::Lower => 29,
-        Op::Greatest => 30,
         Op::GreatestBelow => 31,
-        Op::Least => 32,
         Op::LeastAbove => 33,
         Op::Modulo => 34,
         Op::NotIn => 35,
-        Op::Round => 36,
         Op::RoundTo => 37,
-        Op::Sign => 38,
-        Op::Split => 39,
-        Op::Stripped => 40,
-        Op::Upper => 41,
         Op::Curtail => 42,
+        _ => unreachable!(),
     }
 }

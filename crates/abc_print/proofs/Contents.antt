@@ -3,7 +3,7 @@ use Rattle.std.proofs.Common.{◌≡◌, ℕ, ◌+◌, ◌<◌, ◌≤◌, Bool,
 use Rattle.std.specs.Prelude.{◌⊎◌, ◌==◌, ◌||◌, if◌then◌else◌}
 use Rattle.std.proofs.lemmas.List.{append_assoc, drop_more}
 use Rattle.abc_value.specs.Regular.{IsCharacter, AreCharacters}
-use Rattle.abc_value.proofs.Itemised.{characters_at}
+use Rattle.abc_value.proofs.trees.Itemised.{characters_at}
 use Rattle.abc_tokens.specs.Bytes.{backquote}
 use Rattle.abc_print.specs.Lexemes.{before, content}
 use Rattle.abc_print.specs.inner.Lexing.{width}

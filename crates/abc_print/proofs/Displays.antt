@@ -22,7 +22,7 @@ use Rattle.abc_print.proofs.SignPieces.{open_piece, close_piece, brace_piece, un
 use Rattle.abc_print.proofs.NumeralPieces.{number_piece}
 use Rattle.abc_print.proofs.TextPieces.{text_piece}
 use Rattle.abc_print.proofs.Ordered.{small, list_back, pair_list, table_back}
-use Rattle.abc_value.proofs.Rows.{trees_listed}
+use Rattle.abc_value.proofs.trees.Rows.{trees_listed}
 
 -- the bytes, before others that fit, are read as lexemes that stand in this relation to those behind them
 abbrev Before : List ℕ → (List Lexeme → List Lexeme → Type 0) → Type 0

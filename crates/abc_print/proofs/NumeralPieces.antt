@@ -11,7 +11,7 @@ use Rattle.abc_num.proofs.Ratios.{IsRatio-ok, pos_ne}
 use Rattle.abc_value.specs.Printed.{places, by_places, number_text}
 use Rattle.abc_value.specs.Printed as printed
 use Rattle.abc_value.specs.Tree.{number}
-use Rattle.abc_value.proofs.FiniteDecimals.{decimals_are_exact}
+use Rattle.abc_value.proofs.printed.FiniteDecimals.{decimals_are_exact}
 use Rattle.abc_tokens.specs.declared.kinds.TokenKind.TheVariants as kind
 use Rattle.abc_tokens.specs.Tokens.{IsSound}
 use Rattle.abc_tokens.specs.Scanned.{word_in_front}

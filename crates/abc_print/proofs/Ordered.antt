@@ -9,10 +9,10 @@ use Rattle.abc_value.specs.Order.{order}
 use Rattle.abc_value.specs.Sizes.{length_of, height_of, weight_of, size_fault}
 use Rattle.abc_value.specs.Changes.{add, with_pair, associate_of}
 use Rattle.abc_value.specs.Regular.{IsSmall, IsOrdered, IsRising, AllRegularPairs}
-use Rattle.abc_value.proofs.Adding.{no_fault, tail_ordered}
-use Rattle.abc_value.proofs.OrderLaws.{order-reverse}
-use Rattle.abc_value.proofs.RisingKeys.{tail_rising, Below, below_all}
-use Rattle.abc_value.proofs.Rows.{trees_listed, pairs_listed}
+use Rattle.abc_value.proofs.lists.Adding.{no_fault, tail_ordered}
+use Rattle.abc_value.proofs.ordering.OrderLaws.{order-reverse}
+use Rattle.abc_value.proofs.tables.RisingKeys.{tail_rising, Below, below_all}
+use Rattle.abc_value.proofs.trees.Rows.{trees_listed, pairs_listed}
 use Rattle.abc_value.specs.Changes.{in_order, with_new, placed}
 use Rattle.abc_print.specs.Literals.{if_small, by_fault, listed, tabled}
 

@@ -7,7 +7,7 @@ use Rattle.std.proofs.lemmas.Bool.Decides.{nat_tests}
 use Rattle.abc_value.specs.Regular.{IsCharacter, AreCharacters}
 use Rattle.abc_value.specs.Printed.{doubled, quoted}
 use Rattle.abc_value.specs.Tree.{text}
-use Rattle.abc_value.proofs.Characters.{characters-doubled}
+use Rattle.abc_value.proofs.printed.Characters.{characters-doubled}
 use Rattle.abc_tokens.specs.declared.kinds.TokenKind.TheVariants as kind
 use Rattle.abc_tokens.specs.Bytes.{is_character, is_digit, point, begins}
 use Rattle.abc_tokens.specs.Scanned.{behind_text, ending}

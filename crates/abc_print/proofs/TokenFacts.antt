@@ -10,7 +10,7 @@ use Rattle.abc_tokens.specs.declared.kinds.TokenKind.{TokenKind}
 use Rattle.abc_tokens.specs.declared.kinds.TokenKind.TheVariants as kind
 use Rattle.abc_tokens.specs.Bytes.{is_character}
 use Rattle.abc_tokens.specs.Tokens.{AreTokens}
-use Rattle.abc_value.proofs.Characters.{characters-drop, characters-take}
+use Rattle.abc_value.proofs.printed.Characters.{characters-drop, characters-take}
 use Rattle.abc_print.specs.declared.lexing.Class.{Class}
 use Rattle.abc_print.specs.declared.lexing.Class.TheVariants as class
 use Rattle.abc_print.specs.Lexemes.{class_of, signs_class, sign_class}

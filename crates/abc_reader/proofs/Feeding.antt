@@ -1,5 +1,5 @@
 -- Lines that are fed to a splitter until an item is whole.
-use Rattle.std.proofs.Common.{◌≡◌, ◌⊎◌, ◌≤◌, ◌<◌, ◌+◌, ◌-◌, ℕ, suc, Bool, true, false, List, [], ◌∷◌, ◌++◌, length, take, nat_lt, Option, Some, None, refl, sym, ◌∙◌, ap, subst, arith, append_assoc, length-append}
+use Rattle.std.proofs.Common.{◌≡◌, ◌≤◌, ◌<◌, ◌+◌, ◌-◌, ℕ, suc, Bool, true, false, List, [], ◌∷◌, ◌++◌, length, take, nat_lt, Option, Some, None, refl, sym, ◌∙◌, ap, subst, arith, append_assoc, length-append}
 use Rattle.std.specs.Prelude.{IfOk, IfSome, MatchOption, Result, Ok, Err}
 use Rattle.std.proofs.lemmas.List.{append-nil}
 use Rattle.std.proofs.lemmas.Bool.{lt-ltb}
@@ -9,12 +9,11 @@ use Rattle.abc_num.specs.declared.lines.Line.{Line}
 use Rattle.abc_num.specs.declared.lines.RawLine.{RawLine}
 use Rattle.abc_layout.specs.Items as layout
 use Rattle.abc_layout.specs.SplitterView.{Open, Holds, Finishes}
-use Rattle.abc_turns.specs.Session.{no_item, not_yet, whole_item}
+use Rattle.abc_turns.specs.Session.{not_yet, whole_item}
 use Rattle.abc_reader.specs.Asking.{Asked}
 use Rattle.abc_reader.specs.Items.{as_next, next_item}
-use Rattle.abc_reader.specs.Reading.{Reading, ends_at, lines_behind, MayFollow, UsesLines, ReadLines, BeginsWith, TookItem, WantsMore, AsksMore}
-use Rattle.abc_reader.specs.inner.LineReading.{WantsLine, AsksLine}
-use Rattle.abc_reader.specs.inner.LineSteps.{some_line, TookLine, WantsBehind, AsksBehind, FedLines, IsFeeding}
+use Rattle.abc_reader.specs.Reading.{Reading, ends_at, lines_behind, UsesLines, ReadLines, TookItem, WantsMore, AsksMore}
+use Rattle.abc_reader.specs.inner.LineSteps.{TookLine, WantsBehind, AsksBehind, FedLines, IsFeeding}
 use Rattle.abc_reader.proofs.Asks.{asked_weaker, asked_then}
 use Rattle.abc_reader.proofs.Steady.{shorter}
 

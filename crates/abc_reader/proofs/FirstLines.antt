@@ -1,9 +1,9 @@
 -- The line that is read is the first of what no line has used.
-use Rattle.std.proofs.Common.{◌≡◌, ◌⊎◌, inl, inr, ℕ, zero, suc, ◌+◌, ◌-◌, ◌<◌, ◌≤◌, Bool, true, false, List, [], ◌∷◌, ◌++◌, length, length-append, length-take, length-drop, take, drop, take-append-drop, refl, sym, ◌∙◌, ap, subst, arith, append_assoc, nat_lt, Option, Some, None}
+use Rattle.std.proofs.Common.{◌≡◌, inl, inr, ℕ, zero, suc, ◌+◌, ◌-◌, ◌<◌, ◌≤◌, Bool, true, false, List, [], ◌∷◌, ◌++◌, length, length-append, length-take, length-drop, take, drop, take-append-drop, refl, sym, ◌∙◌, ap, subst, arith, append_assoc, nat_lt, Option, Some, None}
 use Rattle.std.specs.Prelude.{IfSome, IfNone, OnErr, Result, Ok, Err}
 use Rattle.std.proofs.lemmas.List.{append-nil, take_all}
 use Rattle.std.proofs.lemmas.Bool.{lt-ltb, le-ltb}
-use Rattle.abc_num.specs.Lines.{HasNoLf, line_feed, raw_line}
+use Rattle.abc_num.specs.Lines.{HasNoLf, raw_line}
 use Rattle.abc_num.specs.declared.lines.RawLine.{RawLine}
 use Rattle.abc_outside.specs.Lines.{Unread, IsFirst, IsOver, IsWithinLine}
 use Rattle.abc_reader.specs.inner.LineReading.{Front, going_on, pending_of, used_of, Consumes, ConsumesOpen, front_of, TookPart, IsLast, shown}

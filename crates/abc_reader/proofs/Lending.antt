@@ -4,11 +4,10 @@ use Rattle.std.specs.List.{AllByRecursion}
 use Rattle.std.proofs.lemmas.Bool.{false_from_ne_true}
 use Rattle.std.proofs.lemmas.List.{append-nil, append_cancel_left}
 use Rattle.abc_num.specs.Lines.{line_feed}
-use Rattle.abc_num.proofs.Parts.{each_weaker}
 use Rattle.abc_outside.specs.Outside.{Outside}
 use Rattle.abc_reader.specs.Asking.{Asked, Rises, AskedRising, next_ask}
 use Rattle.abc_reader.specs.Lending.{SomeOf, EndsLine, Used, Call, Calls, no_call, one_call, more_calls, CallsRead}
-use Rattle.abc_reader.specs.Reading.{Reading, IsReader, ReadsOn, WaitsAt, bytes_used}
+use Rattle.abc_reader.specs.Reading.{Reading, IsReader, WaitsAt, bytes_used}
 use Rattle.abc_reader.specs.inner.LineSteps.{AsksBehind}
 use Rattle.abc_reader.proofs.Asks.{none_asked, asked_weaker, asked_then}
 use Rattle.abc_reader.proofs.Inputs.{waits_at}

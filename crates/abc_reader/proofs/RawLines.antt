@@ -1,7 +1,7 @@
 -- Lines as they are cut out of bytes, and bytes that are cut into them.
-use Rattle.std.proofs.Common.{◌≡◌, ⊎_elim, ℕ, zero, suc, ◌+◌, ◌<◌, ◌≤◌, Bool, true, false, cond, List, [], ◌∷◌, ◌++◌, length, take, nat_lt, Option, Some, None, inl, refl, sym, ◌∙◌, ap, subst, arith, append_assoc, length-append, length-take}
+use Rattle.std.proofs.Common.{◌≡◌, ⊎_elim, ℕ, zero, suc, ◌+◌, ◌<◌, ◌≤◌, Bool, true, false, List, [], ◌∷◌, ◌++◌, length, take, nat_lt, Option, Some, None, inl, refl, sym, ◌∙◌, ap, subst, arith, append_assoc, length-append, length-take}
 use Rattle.std.specs.Prelude.{◌==◌, if◌then◌else◌, IfSome}
-use Rattle.std.proofs.lemmas.List.{append-nil, take_all, take-append-le, take-take}
+use Rattle.std.proofs.lemmas.List.{append-nil, take-append-le, take-take}
 use Rattle.std.proofs.lemmas.Bool.{cases_lt, lt-ltb, le-ltb}
 use Rattle.abc_num.specs.Lines.{line_feed, carriage_return, HasNoLf, without_cr, first_bytes, raw_line}
 use Rattle.abc_num.specs.declared.limits.TheConstants.{MOST_LINE_BYTES}

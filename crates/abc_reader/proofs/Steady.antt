@@ -1,13 +1,12 @@
 -- The items of an input are steady.
-use Rattle.std.proofs.Common.{◌≡◌, ◌≤◌, ◌<◌, ℕ, suc, Bool, true, false, List, [], ◌∷◌, ◌++◌, length, Option, Some, None, refl, sym, ◌∙◌, ap, subst, arith}
+use Rattle.std.proofs.Common.{◌≡◌, ◌≤◌, ◌<◌, ℕ, suc, Bool, true, false, List, [], ◌∷◌, ◌++◌, length, Some, None, refl, ap, subst, arith}
 use Rattle.std.specs.Prelude.{if◌then◌else◌}
 use Rattle.abc_num.specs.declared.lines.Line.{Line}
 use Rattle.abc_num.specs.declared.lines.RawLine.{RawLine}
 use Rattle.abc_layout.specs.Items.{line_of, is_blank, is_unit, opens, belongs, Front, with_line, belonging, open_item}
 use Rattle.abc_layout.specs.Items as layout
-use Rattle.abc_turns.specs.Session.{Next, no_item, not_yet, whole_item, Came, came, wants}
-use Rattle.abc_turns.specs.Steady.{IsSteady}
-use Rattle.abc_reader.specs.Items.{as_next, next_item, Outcome, came_of, AreSteady}
+use Rattle.abc_turns.specs.Session.{Next, no_item, not_yet, whole_item, came, wants}
+use Rattle.abc_reader.specs.Items.{as_next, next_item, AreSteady}
 use Rattle.abc_layout.proofs.Whole.{whole_stays}
 
 -- an item that a session sees is one of the lines

@@ -1,25 +1,24 @@
 -- Changes that are read are those that were written.
-use Rattle.std.proofs.Common.{◌≡◌, ◌≢◌, ℕ, zero, suc, ◌+◌, ◌-◌, ◌^◌, ◌<◌, ◌≤◌, Bool, true, false, cond, eqb, leb, not, ◌&&◌, List, [], ◌∷◌, ◌++◌, length, Option, Some, None, refl, sym, ap, subst, ◌∙◌, append_assoc, arith, inl, inr, eqb-true}
+use Rattle.std.proofs.Common.{◌≡◌, ℕ, zero, suc, ◌+◌, ◌-◌, ◌^◌, ◌<◌, ◌≤◌, Bool, true, false, cond, eqb, leb, ◌&&◌, List, [], ◌∷◌, ◌++◌, length, Some, None, refl, sym, ap, subst, ◌∙◌, append_assoc, arith, inl, inr, eqb-true}
 use Rattle.std.specs.Prelude.{◌⊎◌, ◌||◌}
-use Rattle.std.specs.List.{flat_map, AllByRecursion}
+use Rattle.std.specs.List.{flat_map}
 use Rattle.std.proofs.lemmas.Bool.{and_parts}
 use Rattle.std.proofs.lemmas.Bool.Decides.{nat_tests}
-use Rattle.abc_num.specs.Characters.{AreCharacters, are_characters}
+use Rattle.abc_num.specs.Characters.{are_characters}
 use Rattle.abc_num.specs.declared.lines.Line.{Line}
-use Rattle.abc_num.specs.declared.limits.TheConstants.{MOST_LINES, MOST_LINE_BYTES, MOST_VALUE_HEIGHT}
+use Rattle.abc_num.specs.declared.limits.TheConstants.{MOST_LINES, MOST_LINE_BYTES}
 use Rattle.abc_num.proofs.Characters.{characters_tested, tested_characters}
-use Rattle.abc_tokens.specs.Bytes.{is_small, point, space, begins}
-use Rattle.abc_tokens.specs.Words.{goes_on, IsTail, IsWord}
+use Rattle.abc_tokens.specs.Bytes.{is_small, point, space}
+use Rattle.abc_tokens.specs.Words.{goes_on, IsTail}
 use Rattle.abc_value.specs.Tree.{Tree}
-use Rattle.abc_value.specs.Sizes.{height_of}
 use Rattle.abc_value.specs.Regular.{IsRegular}
-use Rattle.abc_value.proofs.Making.{regular_sizes}
+use Rattle.abc_value.proofs.trees.Making.{regular_sizes}
 use Rattle.abc_record.specs.declared.change.Change.{Change}
 use Rattle.abc_record.specs.declared.change.Change.TheVariants.{SetTarget, DropTarget, SetUnit, DropUnit}
 use Rattle.abc_record.specs.Bytes.{in_four, spelled_text}
 use Rattle.abc_record.specs.Spelling.{spelled_value, spelled_line, spelled_change}
-use Rattle.abc_record.specs.Kept.{IsKeptName, IsKeptText, IsFlush, IsKeptLine, AreKeptLines, IsKept}
-use Rattle.abc_record.specs.inner.Reading.{Found, ◌>>=◌, only, four_of, counted_of, text_of, goes_on_with, is_tail, is_name, is_kept_name, name_of, is_flush, is_kept_line, line_of, times, are_so_many, lines_of, value_of, most_levels, target_of, dropped_target_of, unit_of, dropped_unit_of, tagged_change, change_of}
+use Rattle.abc_record.specs.Kept.{IsKeptName, IsFlush, IsKeptLine, AreKeptLines, IsKept}
+use Rattle.abc_record.specs.inner.Reading.{◌>>=◌, only, four_of, counted_of, text_of, goes_on_with, is_tail, is_name, is_kept_name, name_of, is_flush, is_kept_line, line_of, times, are_so_many, lines_of, value_of, most_levels, target_of, dropped_target_of, unit_of, dropped_unit_of, tagged_change, change_of}
 use Rattle.abc_record.proofs.Fields.{IsBytes, IsBytes-rest, bind_some, some_is, Takes, Takes-then, Takes-tag, Reads, four_reads, counted_reads, only_reads, times_takes, times_again}
 use Rattle.abc_record.proofs.Trees.{IsLow, text_reads, value_reads}
 

@@ -1,8 +1,8 @@
 -- The changes that stand in front of some bytes, and what that makes of the bytes.
-use Rattle.std.proofs.Common.{◌≡◌, ℕ, zero, suc, ◌+◌, ◌-◌, ◌^◌, ◌<◌, ◌≤◌, Bool, true, false, cond, ltb, eqb, eqb-true, List, [], ◌∷◌, ◌++◌, length, take, drop, Option, Some, None, Result, Ok, Err, refl, sym, ap, subst, ◌∙◌, append_assoc, arith, inl, inr, length-append, length-drop}
-use Rattle.std.specs.Prelude.{◌⊎◌, IsErrOf}
+use Rattle.std.proofs.Common.{◌≡◌, ℕ, zero, suc, ◌+◌, ◌-◌, ◌<◌, ◌≤◌, Bool, true, false, cond, ltb, eqb, eqb-true, List, [], ◌∷◌, ◌++◌, length, take, drop, Some, None, Err, refl, sym, ap, subst, ◌∙◌, append_assoc, arith, inl, inr, length-append, length-drop}
+use Rattle.std.specs.Prelude.{IsErrOf}
 use Rattle.std.specs.Int.{w32, from_be_bytes}
-use Rattle.std.specs.List.{flat_map, AllByRecursion}
+use Rattle.std.specs.List.{AllByRecursion}
 use Rattle.std.proofs.lemmas.Bool.{ltb-false, ltb-true}
 use Rattle.std.proofs.lemmas.Bool.Decides.{nat_tests}
 use Rattle.std.proofs.lemmas.List.{append-nil, nil_from_length}
@@ -11,7 +11,7 @@ use Rattle.abc_record.specs.declared.change.Change.{Change}
 use Rattle.abc_record.specs.declared.faults.RecordFault.TheVariants.{BadRecord}
 use Rattle.abc_record.specs.Bytes.{in_four}
 use Rattle.abc_record.specs.Spelling.{spelled_change, spelled_changes, spelled}
-use Rattle.abc_record.specs.Kept.{IsKept, AreKept, IsSpelling}
+use Rattle.abc_record.specs.Kept.{IsKept, IsSpelling}
 use Rattle.abc_record.specs.Place.{four_at, AreLeading, AreAllLeading, IsBehindLeading, IsWrongAt}
 use Rattle.abc_record.specs.inner.Reading.{Found, four_of, change_of, before_others, by_first, leading}
 use Rattle.abc_record.proofs.Fields.{IsBytes, Takes, Takes-then, not_refused, some_is, four_reads}

@@ -1,5 +1,5 @@
 -- What is written of a value, piece by piece.
-use Rattle.std.proofs.Common.{◌≡◌, ℕ, suc, ◌+◌, ◌<◌, ◌≤◌, List, [], ◌∷◌, ◌++◌, length, map, take, get_or, Option, Some, None, Result, Ok, Err, refl, sym, ap, subst, ◌∙◌, append_assoc, arith, slice_get}
+use Rattle.std.proofs.Common.{◌≡◌, ℕ, suc, ◌+◌, ◌≤◌, List, [], ◌∷◌, ◌++◌, length, take, Option, Some, None, Result, Ok, Err, refl, sym, ap, ◌∙◌, append_assoc, arith, slice_get}
 use Rattle.std.specs.Prelude.{OnOk}
 use Rattle.std.specs.Option.{option_map}
 use Rattle.std.specs.List.{flat_map}
@@ -8,12 +8,12 @@ use Rattle.std.proofs.lemmas.List.Concat.{flat_map-append, flat_map-cons}
 use Rattle.std.proofs.lemmas.Option.{slice_get_within, slice_get_past, slice_get-map, get_or_from_slice_get}
 use Rattle.abc_num.specs.declared.limits.TheConstants.{MOST_ELEMENTS}
 use Rattle.abc_value.specs.declared.value.Kind.TheVariants as kind
-use Rattle.abc_value.specs.Tree.{Tree, Trees, Pairs, number, text, compound, list, table, no_trees, more, listed, listed_pairs}
+use Rattle.abc_value.specs.Tree.{Tree, Trees, number, text, compound, list, table, no_trees, more, listed, listed_pairs}
 use Rattle.abc_value.specs.Parts.{kind_of, codes_of, parts_of, pairs_of, keys_of}
-use Rattle.abc_value.specs.Sizes.{count, count_pairs, length_of}
+use Rattle.abc_value.specs.Sizes.{count, length_of}
 use Rattle.abc_value.specs.Regular.{IsRegular}
-use Rattle.abc_record.specs.Bytes.{in_four, spelled_text}
-use Rattle.abc_record.specs.Spelling.{spelled_value, spelled_values, spelled_pairs}
+use Rattle.abc_record.specs.Bytes.{in_four}
+use Rattle.abc_record.specs.Spelling.{spelled_value, spelled_values}
 use Rattle.abc_record.specs.inner.Writing.{spelled_pair}
 use Rattle.abc_record.proofs.Fields.{some_is}
 use Rattle.abc_record.proofs.Trees.{listed_length, listed_pairs_length, values_flat, pairs_flat}

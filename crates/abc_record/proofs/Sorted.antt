@@ -1,15 +1,15 @@
 -- Elements and pairs that are in order already, and tests of that by their neighbours.
-use Rattle.std.proofs.Common.{◌≡◌, ◌≢◌, ℕ, zero, suc, ◌+◌, ◌-◌, ◌<◌, ◌≤◌, Bool, true, false, cond, not, ◌&&◌, List, [], ◌∷◌, length, get_or, drop, Option, Some, None, refl, sym, ap, subst, ◌∙◌, arith}
+use Rattle.std.proofs.Common.{◌≡◌, ◌≢◌, ℕ, zero, suc, ◌-◌, ◌<◌, ◌≤◌, Bool, true, false, cond, not, ◌&&◌, List, [], ◌∷◌, length, get_or, drop, Some, None, refl, sym, ap, subst, ◌∙◌, arith}
 use Rattle.std.specs.declared.cmp.Ordering.{Ordering}
 use Rattle.std.specs.declared.cmp.Ordering.TheVariants.{Less, Equal, Greater}
 use Rattle.std.specs.Ordering.{is_eq, is_lt, is_gt, match_ordering, ordering_reverse}
-use Rattle.abc_value.specs.Tree.{Tree, Trees, Pairs, trees, pairs, no_trees, more, no_pairs, pair, listed_pairs}
+use Rattle.abc_value.specs.Tree.{Tree, Pairs, trees, pairs, no_pairs, pair, listed_pairs}
 use Rattle.abc_value.specs.Order.{order}
 use Rattle.abc_value.specs.Changes.{add, in_order, with_pair, with_new, associate_of, placed}
-use Rattle.abc_value.specs.Regular.{IsOrdered, IsRising, IsRegular, AllRegularPairs}
-use Rattle.abc_value.proofs.OrderLaws.{order-reverse}
-use Rattle.abc_value.proofs.RisingKeys.{tail_rising, Below, below_all}
-use Rattle.abc_value.proofs.Rows.{listed_pairs_pairs}
+use Rattle.abc_value.specs.Regular.{IsOrdered, IsRising, AllRegularPairs}
+use Rattle.abc_value.proofs.ordering.OrderLaws.{order-reverse}
+use Rattle.abc_value.proofs.tables.RisingKeys.{tail_rising, Below, below_all}
+use Rattle.abc_value.proofs.trees.Rows.{listed_pairs_pairs}
 use Rattle.abc_record.specs.inner.Reading.{are_ordered, are_rising}
 
 -- ---- lists

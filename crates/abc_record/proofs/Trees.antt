@@ -1,5 +1,5 @@
 -- Values that are read are those that were written.
-use Rattle.std.proofs.Common.{◌≡◌, ◌≢◌, ℕ, zero, suc, ◌+◌, ◌*◌, ◌^◌, ◌<◌, ◌≤◌, Bool, true, false, cond, eqb, ltb, not, ◌&&◌, max, unsigned_abs, List, [], ◌∷◌, ◌++◌, length, Option, Some, None, refl, sym, ap, subst, ◌∙◌, append_assoc, arith, inl, inr, eqb-true}
+use Rattle.std.proofs.Common.{◌≡◌, ◌≢◌, ℕ, zero, suc, ◌+◌, ◌^◌, ◌<◌, ◌≤◌, Bool, true, false, cond, eqb, ltb, not, List, [], ◌∷◌, ◌++◌, length, Option, Some, None, refl, sym, ap, subst, ◌∙◌, append_assoc, arith, inl, inr, eqb-true}
 use Rattle.std.specs.Prelude.{◌⊎◌}
 use Rattle.std.specs.List.{flat_map, AllByRecursion}
 use Rattle.std.specs.Int.{w64, w128, cast_unsigned}
@@ -11,18 +11,18 @@ use Rattle.std.proofs.lemmas.Bool.Decides.{nat_tests}
 use Rattle.std.proofs.lemmas.List.Concat.{flat_map-cons}
 use Rattle.abc_num.specs.Characters.{AreCharacters, are_characters}
 use Rattle.abc_num.proofs.Characters.{characters_tested, tested_characters}
-use Rattle.abc_num.specs.Number.{Fraction, whole_number, IsNumber, IsWhole, IsProper}
-use Rattle.abc_num.specs.declared.limits.TheConstants.{MOST_ELEMENTS, MOST_VALUE_HEIGHT, MOST_WEIGHT}
+use Rattle.abc_num.specs.Number.{Fraction, whole_number, IsNumber, IsProper}
+use Rattle.abc_num.specs.declared.limits.TheConstants.{MOST_ELEMENTS}
 use Rattle.abc_value.specs.Tree.{Tree, Trees, Pairs, number, text, compound, list, table, no_trees, more, no_pairs, pair, trees, listed, pairs, listed_pairs, table_of as table_of_pairs}
 use Rattle.abc_value.specs.Order.{order}
 use Rattle.abc_value.specs.Sizes.{count, count_pairs, length_of, height_of, weight_of, trees_height, pairs_height, size_fault}
 use Rattle.abc_value.specs.Regular.{IsSmall, IsOrdered, IsRising, IsRegular, AllRegular, AllRegularPairs}
 use Rattle.abc_value.specs.declared.faults.ValueFault.{ValueFault}
-use Rattle.abc_value.proofs.Adding.{small_sizes, no_fault}
-use Rattle.abc_value.proofs.Rows.{listed_trees, trees_listed, count_trees, listed_pairs_pairs, pairs_listed, count_pairs_pairs}
+use Rattle.abc_value.proofs.lists.Adding.{small_sizes, no_fault}
+use Rattle.abc_value.proofs.trees.Rows.{listed_trees, trees_listed, count_trees, listed_pairs_pairs, pairs_listed, count_pairs_pairs}
 use Rattle.abc_record.specs.Bytes.{in_four, in_eight, in_sixteen, spelled_text}
 use Rattle.abc_record.specs.Spelling.{spelled_number, spelled_whole, spelled_fraction, spelled_value, spelled_values, spelled_pairs}
-use Rattle.abc_record.specs.inner.Reading.{Found, ◌>>=◌, only, four_of, counted_of, text_of, whole_of, parts_of, unless, sized, text_value_of, are_ordered, are_rising, compound_of, list_of, table_of, times, pair_of, several_of, several_pairs_of, tagged, value_of}
+use Rattle.abc_record.specs.inner.Reading.{Found, ◌>>=◌, counted_of, text_of, whole_of, parts_of, unless, sized, text_value_of, are_ordered, are_rising, compound_of, list_of, table_of, pair_of, several_of, several_pairs_of, tagged, value_of}
 use Rattle.abc_record.specs.inner.Writing.{spelled_pair}
 use Rattle.abc_record.proofs.Fields.{IsBytes, IsBytes-rest, bind_some, not_refused, is_passed, some_is, Takes, Takes-then, Takes-tag, Reads, counted_reads, only_reads, several_reads}
 use Rattle.abc_record.proofs.Numbers.{TakesNumber, whole_takes, whole_again, parts_takes, parts_again}

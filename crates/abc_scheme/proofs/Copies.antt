@@ -1,9 +1,9 @@
 -- A copy leaves to its variables exactly the types that the scheme stands for.
-use Rattle.std.proofs.Common.{◌≡◌, ◌∙◌, ℕ, zero, suc, ◌+◌, ◌-◌, ◌<◌, ◌≤◌, List, [], ◌∷◌, ◌++◌, length, get_or, take, drop, cond, map, ap, sym, subst, refl, append_assoc, append-nil, arith}
+use Rattle.std.proofs.Common.{◌≡◌, ◌∙◌, ℕ, zero, suc, ◌+◌, ◌-◌, ◌<◌, ◌≤◌, List, [], ◌∷◌, ◌++◌, length, get_or, take, drop, cond, map, ap, sym, subst, refl, append_assoc, arith}
 use Rattle.std.specs.Prelude.{nat_lt}
 use Rattle.std.specs.List.{All}
-use Rattle.std.proofs.lemmas.List.{length-append, length-map, length-take, map-append, take-append-drop}
-use Rattle.std.proofs.lemmas.List.Elements.{All-nil, All-cons, All-head, All-tail, All-append, All-weaker}
+use Rattle.std.proofs.lemmas.List.{length-append, length-map, map-append, take-append-drop}
+use Rattle.std.proofs.lemmas.List.Elements.{All-nil, All-cons, All-head, All-tail, All-append}
 use Rattle.std.proofs.lemmas.Bool.Decides.{nat_tests}
 use Rattle.abc_num.specs.declared.types.Ground.{Ground}
 use Rattle.abc_terms.specs.declared.term.VarId.{VarId}
@@ -14,13 +14,12 @@ use Rattle.abc_terms.specs.Nodes.{AreIn, DemandIn}
 use Rattle.abc_terms.specs.Renamed.{variable, number_in, renamed}
 use Rattle.abc_terms.proofs.Renaming.{renamed_met, renamed_meets, all_renamed_in}
 use Rattle.abc_terms.proofs.Below.{meets_below}
-use Rattle.abc_terms.proofs.Terms.{demand_in_more}
 use Rattle.abc_unify.specs.Graphs.{Seen, IsUnsolvable}
 use Rattle.abc_unify.specs.Outer.{types}
 use Rattle.abc_scheme.specs.declared.scheme.Scheme.{Scheme}
-use Rattle.abc_scheme.specs.Schemes.{MayHave, StandsFor, IsInside, IsCopied, CannotBeCopied}
+use Rattle.abc_scheme.specs.Schemes.{StandsFor, IsInside, IsCopied, CannotBeCopied}
 use Rattle.abc_scheme.specs.inner.Places.{placed_vars}
-use Rattle.abc_scheme.specs.inner.Copies.{AreFrom, equals, AreMadeBehind}
+use Rattle.abc_scheme.specs.inner.Copies.{equals, AreMadeBehind}
 use Rattle.abc_scheme.proofs.Exactness.{types_placed}
 
 all_left : {X : Type 0} (P : X → Type 0) (xs ys : List X) → All P (xs ++ ys) → All P xs

@@ -3,14 +3,14 @@ use Rattle.std.proofs.Common.{◌≡◌, ◌∙◌, ℕ, ◌<◌, List, [], ◌�
 use Rattle.std.specs.Prelude.{Some, slice_get, ◌↔◌}
 use Rattle.std.specs.List.{All, Contains}
 use Rattle.std.proofs.lemmas.List.{length-map}
-use Rattle.std.proofs.lemmas.List.Elements.{All-nil, All-cons, All-head, All-tail, All-weaker, All-contains, All-contains_itself}
+use Rattle.std.proofs.lemmas.List.Elements.{All-nil, All-head, All-tail, All-weaker, All-contains, All-contains_itself}
 use Rattle.std.proofs.lemmas.Option.{get_or_from_slice_get, slice_get_within}
 use Rattle.abc_num.specs.declared.types.Ground.{Ground}
 use Rattle.abc_terms.specs.declared.term.VarId.{VarId}
 use Rattle.abc_terms.specs.declared.demand.Demand.{Demand}
-use Rattle.abc_terms.specs.Demands.{Holds, MeetsAll}
+use Rattle.abc_terms.specs.Demands.{MeetsAll}
 use Rattle.abc_terms.specs.Nodes.{AreIn, DemandIn}
-use Rattle.abc_terms.specs.Renamed.{variable, number_in, renamed}
+use Rattle.abc_terms.specs.Renamed.{number_in, renamed}
 use Rattle.abc_terms.proofs.Renaming.{renamed_met, renamed_meets, all_renamed_in}
 use Rattle.abc_unify.specs.declared.forms.Known.{Known}
 use Rattle.abc_unify.specs.Graphs.{HasSolution}

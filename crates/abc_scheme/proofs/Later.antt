@@ -1,5 +1,5 @@
 -- Graphs to which variables and demands were added, and the way back.
-use Rattle.std.proofs.Common.{◌≡◌, ◌∙◌, ℕ, ◌+◌, ◌<◌, ◌≤◌, ◌⊎◌, inl, inr, List, [], ◌∷◌, ◌++◌, length, get_or, ap, sym, subst, refl, arith}
+use Rattle.std.proofs.Common.{◌≡◌, ◌∙◌, ℕ, ◌+◌, ◌<◌, ◌≤◌, ◌⊎◌, inl, inr, List, [], ◌∷◌, ◌++◌, length, ap, sym, subst, refl, arith}
 use Rattle.std.proofs.lemmas.List.{length-append, get_or_append_left}
 use Rattle.std.proofs.Math.Seq.{get_or-append_seam}
 use Rattle.std.proofs.lemmas.Bool.{cases_lt}
@@ -8,7 +8,7 @@ use Rattle.abc_terms.specs.declared.demand.Demand.{Demand}
 use Rattle.abc_terms.specs.Renamed.{variable, number_in}
 use Rattle.abc_unify.specs.Graphs.{Seen, held, back_at, with_variable, with_demands}
 use Rattle.abc_unify.proofs.Backward.{back_now, back_more}
-use Rattle.abc_scheme.specs.inner.Copies.{AreFrom, IsLater, AreMadeBehind}
+use Rattle.abc_scheme.specs.inner.Copies.{IsLater, AreMadeBehind}
 
 pub later_same : (s : Seen) → IsLater s s
 later_same s m le = (le, refl)

@@ -7,7 +7,7 @@ use Rattle.abc_num.specs.declared.types.Ground.{Ground}
 use Rattle.abc_num.specs.declared.types.Ground.TheVariants as type
 use Rattle.abc_value.specs.Tree.{Tree}
 use Rattle.abc_value.specs.Types.{has}
-use Rattle.abc_value.proofs.Joins.{compound_table}
+use Rattle.abc_value.proofs.forms.Joins.{compound_table}
 use Rattle.abc_tree.specs.Height.{above, highest, height, height_over, piece_heights, fill_heights, pair_heights}
 use Rattle.abc_tree.specs.Regular.{is_address, address_is}
 use Rattle.abc_tree.specs.declared.formulas.Expr.{Expr, out-Expr, map-Expr}

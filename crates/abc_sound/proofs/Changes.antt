@@ -17,7 +17,7 @@ use Rattle.abc_value.specs.Parts.{parts_of, pairs_of}
 use Rattle.abc_value.specs.Sizes.{size_fault}
 use Rattle.abc_value.specs.Items.{by_fault, if_small}
 use Rattle.abc_value.specs.Changes.{add, without, is_element, with_pair, without_key, associate_of}
-use Rattle.abc_value.proofs.Shaping.{has_form}
+use Rattle.abc_value.proofs.forms.Shaping.{has_form}
 use Rattle.abc_predef.proofs.Typed.{typed_parts, add_typed, list_of_type, typed_pairs, with_typed}
 use Rattle.abc_meaning.specs.State.{Step, key, Address, Addresses, place, several, no_addresses, more_addresses, faulty}
 use Rattle.abc_meaning.specs.Changing.{Change, puts, inserts, removes, deletes, Part, Changed, sized, if_fit, changed_to, with_associate, changed, parts, parts_all, fielded, fielded_all}

@@ -14,18 +14,17 @@ use Rattle.abc_tree.specs.Lists.{flat}
 use Rattle.abc_tree.specs.Lined.{Lined, at}
 use Rattle.abc_tree.specs.Calls.{Calls, template_first, calls_in, calls_in_test, part_calls, test_if_any, node_calls, action_calls, alternative_calls, calls_in_node, calls_in_action, calls_in_alternative}
 use Rattle.abc_tree.specs.Regular.{Names, is_call, is_command, has_regular_parts, is_regular_expression, is_regular_test, is_address, is_literal}
-use Rattle.abc_tree.specs.RegularItems.{Part, Parts, Way, here, line, value, address, example, test, bound, calls, refinement, parts_of, node_parts, action_parts, way_of}
+use Rattle.abc_tree.specs.RegularItems.{Part, Parts, Way, line, value, address, example, test, calls, refinement, parts_of, node_parts, action_parts, way_of}
 use Rattle.abc_tree.specs.declared.templates.Template.{Template}
 use Rattle.abc_tree.specs.declared.formulas.Expr.{Expr}
-use Rattle.abc_tree.specs.declared.formulas.Bound.{Bound}
 use Rattle.abc_tree.specs.declared.formulas.Test.{Test}
-use Rattle.abc_tree.specs.declared.commands.Action.{Action, out-Action, roll-Action, map-Action}
-use Rattle.abc_tree.specs.declared.commands.ActionNode.{ActionNode, fold-ActionNode, out-ActionNode, roll-ActionNode, map-ActionNode}
+use Rattle.abc_tree.specs.declared.commands.Action.{Action, out-Action, map-Action}
+use Rattle.abc_tree.specs.declared.commands.ActionNode.{ActionNode, fold-ActionNode, out-ActionNode, map-ActionNode}
 use Rattle.abc_tree.specs.declared.commands.ActionNode.TheOpen.{ActionNode-F}
 use Rattle.abc_tree.specs.declared.commands.ActionNode.TheViews.{roll-out-Action, roll-out-ActionNode, roll-out-Alternative}
 use Rattle.abc_tree.specs.declared.commands.ActionNode.TheFolds.{fold-roll-ActionNode, fold-roll-Action, fold-roll-Alternative}
-use Rattle.abc_tree.specs.declared.commands.Alternative.{Alternative, fold-Alternative, out-Alternative, roll-Alternative}
-use Rattle.abc_ground.specs.Seen.{Rule, one_type, member, any, line_of_text, train, Node, node, call, nodes, over, over_two, call_of, seen, seen_test, seen_bound, part_seen, tested, At, node_seen, action_seen, alternative_seen, seen_node, seen_action, seen_alternative}
+use Rattle.abc_tree.specs.declared.commands.Alternative.{Alternative, fold-Alternative, out-Alternative}
+use Rattle.abc_ground.specs.Seen.{one_type, member, any, line_of_text, train, Node, node, over, over_two, call_of, seen, seen_test, seen_bound, part_seen, tested, At, node_seen, action_seen, alternative_seen, seen_node, seen_action, seen_alternative}
 use Rattle.abc_ground.specs.Fits.{Signature, Typing, AreAll, RuleFits, fits}
 use Rattle.abc_meaning.specs.Here.{Scope, refinement_named}
 use Rattle.abc_meaning.proofs.Opened.{front, behind, each_of_flat, InExpr, InTest, AllParts, InAction, InSuite, InWay, InNode, in_action}

@@ -17,14 +17,14 @@ use Rattle.abc_tree.specs.RegularItems.{command_names, names_of}
 use Rattle.abc_tree.specs.Roles.{is_prefix, is_infix}
 use Rattle.abc_tree.specs.declared.operations.Op.{Op}
 use Rattle.abc_tree.specs.declared.templates.Template.{Template}
-use Rattle.abc_tree.specs.declared.formulas.Expr.{Expr, roll-Expr, out-Expr, map-Expr}
+use Rattle.abc_tree.specs.declared.formulas.Expr.{Expr, out-Expr, map-Expr}
 use Rattle.abc_tree.specs.declared.formulas.Expr.TheOpen.{Expr-F, Fill-F, Piece-F, Pair-F}
 use Rattle.abc_tree.specs.declared.formulas.Expr.TheViews.{roll-out-Expr, roll-out-Fill, roll-out-Piece, roll-out-Pair}
 use Rattle.abc_tree.specs.declared.formulas.Expr.TheFolds.{fold-roll-Expr, fold-roll-Fill, fold-roll-Piece, fold-roll-Pair}
-use Rattle.abc_tree.specs.declared.formulas.Fill.{Fill, fold-Fill, roll-Fill, out-Fill, map-Fill}
-use Rattle.abc_tree.specs.declared.formulas.Piece.{Piece, fold-Piece, roll-Piece, out-Piece, map-Piece}
-use Rattle.abc_tree.specs.declared.formulas.Pair.{Pair, fold-Pair, roll-Pair, out-Pair}
-use Rattle.abc_ground.specs.Seen.{Rule, numeral, characters, name, result, fields, nothing, elements, entries, selection, row, any, Node, Nodes, node, call, no_nodes, more, nodes, call_of, Filled, filled, any_ranged, piece_seen, fill_seen, pair_seen, expression_seen, seen, seen_fill, seen_piece, seen_pair}
+use Rattle.abc_tree.specs.declared.formulas.Fill.{Fill, fold-Fill, out-Fill, map-Fill}
+use Rattle.abc_tree.specs.declared.formulas.Piece.{Piece, fold-Piece, out-Piece, map-Piece}
+use Rattle.abc_tree.specs.declared.formulas.Pair.{Pair, fold-Pair, out-Pair}
+use Rattle.abc_ground.specs.Seen.{numeral, characters, name, result, fields, nothing, elements, entries, selection, row, Node, Nodes, node, call, no_nodes, more, nodes, call_of, Filled, filled, any_ranged, piece_seen, fill_seen, pair_seen, expression_seen, seen, seen_fill, seen_piece, seen_pair}
 use Rattle.abc_ground.specs.Fits.{Signature, Typing, IsHad, AreAll, AreEntries, AreFields, IsRanged, ValueFits, RuleFits, IsAny, IsGiven, CallFits, fits, each_fits}
 use Rattle.abc_ground.specs.Calls.{any_allowed}
 use Rattle.abc_meaning.specs.Here.{Scope, in_command, in_unit}

@@ -7,9 +7,9 @@ use Rattle.abc_num.specs.declared.types.Ground.{Ground}
 use Rattle.abc_num.specs.declared.types.Ground.TheVariants as type
 use Rattle.abc_value.specs.Tree.{Tree}
 use Rattle.abc_value.specs.Types.{has}
-use Rattle.abc_value.specs.Forms.{Form, a_number, a_text, a_compound, a_list, a_table, forms, both, joined, form_of, fits as of_form, each_fits as each_of_forms, Fits}
-use Rattle.abc_value.proofs.Joins.{fits_joined, of_list, of_table}
-use Rattle.abc_value.proofs.Shaping.{form_has, a_type}
+use Rattle.abc_value.specs.Forms.{Form, a_number, a_text, a_compound, a_list, a_table, forms, both, joined, form_of, each_fits as each_of_forms, Fits}
+use Rattle.abc_value.proofs.forms.Joins.{fits_joined, of_list, of_table}
+use Rattle.abc_value.proofs.forms.Shaping.{form_has, a_type}
 use Rattle.abc_tree.specs.Lists.{flat}
 use Rattle.abc_tree.specs.Regular.{Names, every, some, has_regular_parts, expression_is, fill_is, piece_is, pair_is, AsLiteral, with_sign, divided, all_literals, piece_literal, fill_literal, pair_literal, as_literal}
 use Rattle.abc_tree.specs.declared.operations.Op.{Op}
@@ -25,8 +25,8 @@ use Rattle.abc_predef.specs.declared.table.Letter.{Letter}
 use Rattle.abc_predef.specs.declared.table.Letter.TheVariants as letter
 use Rattle.abc_predef.specs.Signatures.{result_of}
 use Rattle.abc_predef.specs.Takes.{StandsFor}
-use Rattle.abc_ground.specs.Seen.{Node, Nodes, Filled, filled, nodes, more, numeral, expression_seen, fill_seen, piece_seen, pair_seen, seen, seen_fill, seen_pair}
-use Rattle.abc_ground.specs.Fits.{Signature, Typing, AreAll, AreEntries, AreFields, ValueFits, fits}
+use Rattle.abc_ground.specs.Seen.{Node, Filled, filled, nodes, expression_seen, fill_seen, piece_seen, pair_seen, seen_fill, seen_pair}
+use Rattle.abc_ground.specs.Fits.{Signature, Typing, AreAll, AreEntries, AreFields, ValueFits}
 use Rattle.abc_meaning.specs.Fits.{agree, forms_in, fields_in, fill_form, piece_form, pair_form, literal_form, example_form}
 use Rattle.abc_meaning.specs.Here.{Scope}
 use Rattle.abc_meaning.proofs.Opened.{front}

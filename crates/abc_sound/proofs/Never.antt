@@ -13,10 +13,10 @@ use Rattle.abc_ground.specs.Typable.{AreTypes, CommandMayFit, IsOffered}
 use Rattle.abc_meaning.specs.State.{State, Stop, faulty, wrong, wants, Got, gives, stops, Flow, goes_on, quits, returns, reports}
 use Rattle.abc_meaning.specs.Here.{in_command}
 use Rattle.abc_meaning.specs.Meaning.{meaning}
-use Rattle.abc_meaning.specs.Ran.{quit, stopped, outcome_of, ran, ran_as, starting, standing}
+use Rattle.abc_meaning.specs.Ran.{stopped, outcome_of, ran, ran_as, starting, standing}
 use Rattle.abc_meaning.specs.Regular.{IsShort, IsNumbered, ValuesStayRegular}
 use Rattle.abc_sound.specs.Checked.{IsReadUnit, IsSessionItem, IsNeverWrong, AcceptedIsNeverWrong, TargetsKeepTheirTypes, WorkspaceStaysTypable}
-use Rattle.abc_sound.proofs.Leaving.{Sure, sure, IsFine, Leaves}
+use Rattle.abc_sound.proofs.Leaving.{Sure, IsFine, Leaves}
 use Rattle.abc_sound.proofs.States.{IsReady}
 use Rattle.abc_sound.proofs.Nodes.{FlowIs, all_good}
 use Rattle.abc_sound.proofs.Units.{Allowed, Present, offered_allowed, command_more}

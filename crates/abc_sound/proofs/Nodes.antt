@@ -1,5 +1,5 @@
 -- All nodes at all levels: where a tree fits and the state is typed, no part of a run is wrong.
-use Rattle.std.proofs.Common.{◌≡◌, ◌∙◌, refl, ap, sym, subst, ℕ, zero, suc, Bool, true, false, not, ◌&&◌, List, [], ◌∷◌, ◌++◌, map, length, Option, Some, None, Ok, if◌then◌else◌, is_some, append_assoc, arith}
+use Rattle.std.proofs.Common.{◌≡◌, ◌∙◌, refl, ap, sym, subst, ℕ, zero, suc, Bool, true, false, not, ◌&&◌, List, [], ◌∷◌, ◌++◌, map, length, Option, Some, None, if◌then◌else◌, is_some, append_assoc, arith}
 use Rattle.std.specs.Prelude.{◌<◌, slice_get, option_and_then, nat_le}
 use Rattle.std.specs.List.{AllByRecursion, list_all}
 use Rattle.std.specs.Option.{IfSome}
@@ -15,15 +15,15 @@ use Rattle.abc_num.specs.declared.limits.TheConstants.{MOST_TREE_HEIGHT}
 use Rattle.abc_num.specs.declared.types.Ground.{Ground}
 use Rattle.abc_num.specs.declared.types.Ground.TheVariants as type
 use Rattle.abc_value.specs.declared.faults.RunFault.TheVariants.{NoValue}
-use Rattle.abc_value.specs.Tree.{Tree, trees, number}
+use Rattle.abc_value.specs.Tree.{Tree, trees}
 use Rattle.abc_value.specs.Types.{has}
 use Rattle.abc_value.specs.Forms.{anything, form_of, joined, Fits}
 use Rattle.abc_value.specs.Items.{elements_of}
 use Rattle.abc_value.specs.Parts.{parts_of as elements_in}
 use Rattle.abc_value.specs.Printed.{outer}
 use Rattle.abc_value.specs.Regular.{IsRegular}
-use Rattle.abc_value.proofs.Joins.{joined_fits}
-use Rattle.abc_value.proofs.Shaping.{has_form}
+use Rattle.abc_value.proofs.forms.Joins.{joined_fits}
+use Rattle.abc_value.proofs.forms.Shaping.{has_form}
 use Rattle.abc_frames.specs.Maps.{Frame, with_value_at}
 use Rattle.abc_tree.specs.Height.{height}
 use Rattle.abc_tree.specs.Lists.{flat}
@@ -56,22 +56,22 @@ use Rattle.abc_tree.specs.declared.commands.RefinementKind.TheVariants as refine
 use Rattle.abc_tree.specs.declared.commands.Unit.{Unit as Routine}
 use Rattle.abc_ground.specs.Seen.{Node, leaf, name as name_rule, result, name_place, place_in}
 use Rattle.abc_ground.specs.Fits.{Signature, Typing, IsHad, AreAll, AreActuals, IsGiven, CallFits, RuleFits}
-use Rattle.abc_meaning.specs.State.{key, Address, Addresses, place, State, gives, Run, after, Flow, goes_on, quits, returns, reports}
-use Rattle.abc_meaning.specs.Here.{Here, Scope, in_unit, at_line, within, names_in, is_bound, look, spend, refinement_named, refinement_at}
+use Rattle.abc_meaning.specs.State.{key, Address, place, State, gives, Run, after, Flow, goes_on, quits, returns, reports}
+use Rattle.abc_meaning.specs.Here.{Here, Scope, in_unit, at_line, within, names_in, is_bound, look, refinement_named, refinement_at}
 use Rattle.abc_meaning.specs.Deeper.{Deeper, Actual}
 use Rattle.abc_meaning.specs.Fits.{has_type, train_elements, example_form, is_test as is_test_of}
 use Rattle.abc_meaning.specs.Bindings.{Bindings, bindings, at_fields, bind, held}
 use Rattle.abc_meaning.specs.Calls.{then_on, entering, returned, reported, with_bindings, suite, body_over, entered, called, function_call, predicate_call, refined, expression_refinement}
 use Rattle.abc_meaning.specs.Value.{values, piece, pieces, Wording, filled, fillers, Filling, paired, entries, Tabling, name_value, there, value_with}
 use Rattle.abc_meaning.specs.Holds.{decides, if_decided, compared, chain, quantified, over_train, refinement_test, holds_with}
-use Rattle.abc_meaning.specs.Changing.{puts, inserts, removes, deletes, parts, put, delete, change_list}
-use Rattle.abc_meaning.specs.Addresses.{stepped, gathered, together, whole, address_list, address_with, address_within, address as address_run}
+use Rattle.abc_meaning.specs.Changing.{inserts, removes, parts, put, delete, change_list}
+use Rattle.abc_meaning.specs.Addresses.{stepped, together, whole, address_list, address_with, address_within, address as address_run}
 use Rattle.abc_meaning.specs.Actuals.{located, name_actual, gather, Gathered, actual_with, actuals}
 use Rattle.abc_meaning.specs.PutBack.{Entry, entry, named, with_formal, leaving, body_with, command_call, command_refinement}
-use Rattle.abc_meaning.specs.Acts.{newlines, say, checked, written, succeeds, select, turns, each, each_of, acts_with}
+use Rattle.abc_meaning.specs.Acts.{newlines, checked, written, succeeds, select, turns, each, each_of, acts_with}
 use Rattle.abc_meaning.specs.Meaning.{meaning}
 use Rattle.abc_meaning.specs.Regular.{OfActual, OfFlow, AreValues, HasKeys, AreNumbers, IsNumberedScope, EachGivesValues}
-use Rattle.abc_meaning.specs.Written.{numbers_in, numbers_in_part, numbers_in_parts}
+use Rattle.abc_meaning.specs.Written.{numbers_in_part, numbers_in_parts}
 use Rattle.abc_meaning.proofs.Opened.{together as both_all, one_more, AllParts}
 use Rattle.abc_sound.proofs.Leaving.{Sure, sure, Any, Fine, after_leaves, given, halted, next, surely, seeing, passed, either, weaker, later}
 use Rattle.abc_sound.proofs.Typed.{both_true, HaveAll, HavePairs, typed_has_type, train_has, relation_taken, membership_taken}

@@ -1,5 +1,5 @@
 -- Runs that change names: what is put, deleted and put back keeps the types.
-use Rattle.std.proofs.Common.{◌≡◌, ◌∙◌, refl, ap, sym, subst, ℕ, Bool, true, false, List, [], ◌∷◌, map, Option, Some, None, Ok, Err, if◌then◌else◌, is_some}
+use Rattle.std.proofs.Common.{◌≡◌, ◌∙◌, refl, sym, subst, ℕ, Bool, true, false, List, [], ◌∷◌, map, Option, Some, None, Ok, Err, if◌then◌else◌, is_some}
 use Rattle.std.specs.Prelude.{slice_get}
 use Rattle.std.specs.List.{AllByRecursion, list_all}
 use Rattle.std.specs.Option.{IfSome}
@@ -8,12 +8,12 @@ use Rattle.abc_num.specs.declared.types.Ground.TheVariants as type
 use Rattle.abc_value.specs.declared.faults.RunFault.TheVariants.{NoValue}
 use Rattle.abc_value.specs.Tree.{Tree}
 use Rattle.abc_value.specs.Types.{has}
-use Rattle.abc_value.proofs.Joins.{compound_list}
+use Rattle.abc_value.proofs.forms.Joins.{compound_list}
 use Rattle.abc_frames.specs.Maps.{Frame, value_at}
 use Rattle.abc_meaning.specs.State.{Address, place, several, Formal, State, gives, Run, becomes}
-use Rattle.abc_meaning.specs.Here.{Here, look, assign, halt}
-use Rattle.abc_meaning.specs.Bindings.{Bindings, assign_all, set_names, bind, held}
-use Rattle.abc_meaning.specs.Changing.{Change, puts, deletes, Part, Changed, changed, formal_named, marked, marking, mark, assigned, change, parts, put_parts, put_fields, put, delete, change_list, fielded}
+use Rattle.abc_meaning.specs.Here.{Here, look, assign}
+use Rattle.abc_meaning.specs.Bindings.{Bindings, assign_all, set_names, held}
+use Rattle.abc_meaning.specs.Changing.{Change, puts, deletes, Part, Changed, changed, formal_named, marked, marking, mark, assigned, change, parts, put_parts, put_fields, put, delete, change_list}
 use Rattle.abc_meaning.specs.PutBack.{has_value, mark_all, delete_there, put_at, put_formal, put_one, put_back}
 use Rattle.abc_sound.proofs.Leaving.{Fine, Any, given, halted, next, seeing, becoming, either}
 use Rattle.abc_sound.proofs.Changes.{Has, ChangeFits, ChangedFits, changed_fits, PartFits, AddressFits, HasPlace, HasField, parts_fit, fielded_fits}

@@ -5,7 +5,7 @@ use Rattle.abc_num.specs.declared.types.Ground.TheOpen.{Ground-F}
 use Rattle.abc_num.specs.declared.types.Ground.TheVariants as type
 use Rattle.abc_value.specs.Tree.{Tree, Trees, Pairs, number, text, compound, list, table, no_trees, more, no_pairs, pair}
 use Rattle.abc_value.specs.Types.{IsCollection, has, each_has, all_have, pairs_have}
-use Rattle.abc_value.proofs.Grounds.{number_opens, text_opens, list_opens, compound_opens, table_opens, list_part, compound_part, key_part, associate_part}
+use Rattle.abc_value.proofs.forms.Grounds.{number_opens, text_opens, list_opens, compound_opens, table_opens, list_part, compound_part, key_part, associate_part}
 use Rattle.abc_terms.proofs.Grounds.{out_same}
 use Rattle.abc_sound.proofs.Leaving.{Sure}
 

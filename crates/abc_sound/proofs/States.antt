@@ -16,7 +16,7 @@ use Rattle.abc_num.specs.Text.{text_cmp}
 use Rattle.abc_value.specs.Tree.{Tree}
 use Rattle.abc_value.specs.Regular.{IsRegular}
 use Rattle.abc_value.specs.Types.{has}
-use Rattle.abc_frames.specs.Maps.{Targets, Frame, value_of, with_value, value_at, with_value_at}
+use Rattle.abc_frames.specs.Maps.{Frame, value_of, value_at, with_value_at}
 use Rattle.abc_frames.proofs.Merging.{texts_same}
 use Rattle.abc_meaning.specs.State.{Address, Formal, State, gives, stops, Run, Got}
 use Rattle.abc_meaning.specs.Here.{Here, Scope, target_at, look, value_in, assign, assign_in, spend, spend_of}

@@ -22,7 +22,7 @@ use Rattle.abc_tree.specs.declared.formulas.Test.TheOpen.{Test-F}
 use Rattle.abc_tree.specs.declared.formulas.Test.TheViews.{roll-out-Test}
 use Rattle.abc_tree.specs.declared.formulas.Test.TheFolds.{fold-roll-Test}
 use Rattle.abc_tree.specs.declared.operations.Op.{Op}
-use Rattle.abc_ground.specs.Seen.{Rule, name, fields, one_type, any, train, test_row, Node, Nodes, node, call, no_nodes, more, nodes, over, over_two, call_of, bound_seen, seen_bound, test_seen, seen_test, seen}
+use Rattle.abc_ground.specs.Seen.{one_type, any, train, test_row, Node, call, no_nodes, more, nodes, over_two, call_of, bound_seen, seen_bound, test_seen, seen_test, seen}
 use Rattle.abc_ground.specs.Fits.{Signature, Typing, AreAll, TestFits, RuleFits, IsAny, IsGiven, CallFits, fits}
 use Rattle.abc_meaning.specs.Here.{Scope}
 use Rattle.abc_meaning.proofs.Opened.{front, behind, InExpr, InTest, InTestLayer, in_test}

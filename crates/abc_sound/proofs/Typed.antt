@@ -12,17 +12,17 @@ use Rattle.abc_tree.specs.Roles.{is_relation}
 use Rattle.abc_tree.specs.declared.operations.Op.{Op}
 use Rattle.abc_tree.specs.declared.operations.Op.TheVariants as op
 use Rattle.abc_value.specs.declared.faults.ValueFault.{ValueFault}
-use Rattle.abc_value.specs.Tree.{Tree, Trees, Pairs, number, text, compound, list, table, trees, pairs, listed, listed_pairs, no_trees, more, pair, table_of}
+use Rattle.abc_value.specs.Tree.{Tree, Trees, number, text, compound, list, table, trees, pairs, listed_pairs, no_trees, more, table_of}
 use Rattle.abc_value.specs.Types.{has, each_has, all_have, pairs_have}
-use Rattle.abc_value.specs.Forms.{Form, a_list, a_table, fits, Fits, both, joined, form_of, elements_form}
+use Rattle.abc_value.specs.Forms.{Form, a_list, a_table, Fits, both, joined, form_of, elements_form}
 use Rattle.abc_value.specs.Order.{order}
 use Rattle.abc_value.specs.Parts.{parts_of, pairs_of}
 use Rattle.abc_value.specs.Sizes.{size_fault}
 use Rattle.abc_value.specs.Items.{elements_of, by_fault, if_small, numbers_from, characters_from, number_range, character_range, range_of}
-use Rattle.abc_value.specs.Changes.{add, in_order, with_new, placed, associate_of}
-use Rattle.abc_value.proofs.Grounds.{compound_part}
-use Rattle.abc_value.proofs.Joins.{number_text, number_list, number_table, text_list, text_table, compound_text, compound_list, compound_table, list_table, list_of, table_of_both, joined_fits}
-use Rattle.abc_value.proofs.Shaping.{has_form, elements_exact}
+use Rattle.abc_value.specs.Changes.{in_order, with_new, placed, associate_of}
+use Rattle.abc_value.proofs.forms.Grounds.{compound_part}
+use Rattle.abc_value.proofs.forms.Joins.{number_text, number_list, number_table, text_list, text_table, compound_text, compound_list, compound_table, list_table, list_of, table_of_both, joined_fits}
+use Rattle.abc_value.proofs.forms.Shaping.{has_form, elements_exact}
 use Rattle.abc_predef.specs.declared.table.Letter.{Letter}
 use Rattle.abc_predef.specs.declared.table.Letter.TheVariants as letter
 use Rattle.abc_predef.specs.declared.table.Operands.{Operands}

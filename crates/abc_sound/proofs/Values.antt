@@ -1,5 +1,5 @@
 -- Runs that make values of other values: each gives a value of its type, where these have theirs.
-use Rattle.std.proofs.Common.{◌≡◌, refl, ap, sym, subst, ℕ, suc, true, not, ◌&&◌, List, [], ◌∷◌, ◌++◌, map, length, Option, Some, None, Result, Ok, Err, is_some}
+use Rattle.std.proofs.Common.{◌≡◌, refl, sym, subst, ℕ, suc, true, not, ◌&&◌, List, [], ◌∷◌, ◌++◌, map, length, Option, Some, None, Result, Ok, Err, is_some}
 use Rattle.std.specs.Prelude.{nat_le}
 use Rattle.std.proofs.Common.{arith}
 use Rattle.std.proofs.lemmas.Bool.Decides.{nat_tests}
@@ -21,9 +21,9 @@ use Rattle.abc_value.specs.Changes.{in_order, placed, associate_of}
 use Rattle.abc_value.specs.Parts.{parts_of, pairs_of}
 use Rattle.abc_value.specs.Printed.{outer}
 use Rattle.abc_value.specs.Regular.{IsRegular, AllRegular, AllRegularPairs}
-use Rattle.abc_value.proofs.Characters.{characters-append}
-use Rattle.abc_value.proofs.Making.{text_regular}
-use Rattle.abc_value.proofs.Outers.{outer_characters}
+use Rattle.abc_value.proofs.printed.Characters.{characters-append}
+use Rattle.abc_value.proofs.trees.Making.{text_regular}
+use Rattle.abc_value.proofs.printed.Outers.{outer_characters}
 use Rattle.abc_print.specs.Computed.{literal_of}
 use Rattle.abc_tree.specs.declared.operations.Op.{Op}
 use Rattle.abc_predef.specs.Rows.{row_of_one, row_of_two}

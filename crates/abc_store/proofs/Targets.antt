@@ -10,7 +10,7 @@ use Rattle.std.proofs.lemmas.List.Concat.{flat_map-cons}
 use Rattle.abc_num.specs.Text.{text_cmp}
 use Rattle.abc_value.specs.Tree.{Tree}
 use Rattle.abc_value.specs.Regular.{IsRegular}
-use Rattle.abc_value.proofs.Making.{regular_sizes}
+use Rattle.abc_value.proofs.trees.Making.{regular_sizes}
 use Rattle.abc_frames.specs.declared.targets.TargetChange.{TargetChange}
 use Rattle.abc_frames.specs.Maps.{Targets, AreRising, AreRegular, with_value, without, is_same, told, changes_of, applied}
 use Rattle.abc_frames.specs.inner.Merging.{History, front_of, behind, IsRegularIfAny}

@@ -1,13 +1,15 @@
 -- Steps of a change.
-use Rattle.abc_acts.specs.declared.run.Formal.{Formal as HeldFormal}
-use Rattle.std.specs.Prelude.{◌≡◌, ◌≢◌, ◌==◌, ℕ, zero, suc, Bool, true, false, List, [], ◌∷◌, Option, Some, None, Result, Ok, Err, is_some}
+use Rattle.abc_state.specs.declared.run.Formal.{Formal as HeldFormal}
+use Rattle.std.specs.Prelude.{◌≡◌, ◌≢◌, ◌==◌, ℕ, zero, suc, true, false, List, [], ◌∷◌, Option, Some, None, Result, Ok, Err, is_some}
 use Rattle.abc_value.specs.declared.faults.RunFault.TheVariants.{Memory, NoValue, NotAnAddress}
 use Rattle.abc_value.specs.Tree.{Tree}
 use Rattle.abc_meaning.specs.State.{Step, Formal, faulty, wrong, Run}
 use Rattle.abc_meaning.specs.Here.{Here, look}
 use Rattle.abc_meaning.specs.Changing.{Change, puts, inserts, removes, deletes, Changed, changed, assigned, formal_named, marked}
-use Rattle.abc_acts.specs.declared.halt.Halt.{Halt}
-use Rattle.abc_acts.specs.declared.halt.Halt.TheVariants.{Fault, Wrong}
+use Rattle.abc_state.specs.declared.halt.Halt.{Halt}
+use Rattle.abc_state.specs.declared.halt.Halt.TheVariants.{Fault, Wrong}
+use Rattle.abc_acts.specs.declared.changing.Fate.{Fate}
+use Rattle.abc_acts.specs.declared.changing.Fate.TheVariants.{Stands, Deleted}
 use Rattle.abc_acts.specs.declared.changing.Change.{Change as HeldChange}
 use Rattle.abc_acts.specs.declared.changing.Change.TheVariants.{Puts, Inserts, Removes, Deletes}
 
@@ -22,10 +24,15 @@ abbrev pub Stops : Halt → Changed → Type 0
 Stops (Fault f) c = f ≢ Memory → c ≡ Err (faulty f)
 Stops Wrong c = c ≡ Err wrong
 
--- The old value was changed to the new one, or is deleted; or the change stops, and the value is as before.
-abbrev pub IsChanged : Result Bool Halt → Tree → Tree → Changed → Type 0
-IsChanged (Ok true) old new c = c ≡ Ok (Some new)
-IsChanged (Ok false) old new c = c ≡ Ok None
+-- The old value was changed to the new one; or the change stops, and the value is as before.
+abbrev pub IsAltered : Result (Unit {0}) Halt → Tree → Tree → Changed → Type 0
+IsAltered (Ok u) old new c = c ≡ Ok (Some new)
+IsAltered (Err h) old new c = (new ≡ old) × Stops h c
+
+-- The same of a change by which the value may be deleted.
+abbrev pub IsChanged : Result Fate Halt → Tree → Tree → Changed → Type 0
+IsChanged (Ok Stands) old new c = c ≡ Ok (Some new)
+IsChanged (Ok Deleted) old new c = c ≡ Ok None
 IsChanged (Err h) old new c = (new ≡ old) × Stops h c
 
 -- what a change makes, or why it stops

@@ -1,5 +1,5 @@
 use Rattle.std.proofs.Common.{arith, drop, length-drop, ◌∙◌, sym}
-use Rattle.abc_value.proofs.Comparing.{part_below, order_at_end, entry_below, pairs_at_end}
+use Rattle.abc_value.proofs.ordering.Comparing.{part_below, order_at_end, entry_below, pairs_at_end}
 use Rattle.abc_value.proofs.+compare.Goals as goal
 
 pub compare::cmp_all-cmp-requires : goal.compare::cmp_all-cmp-requires

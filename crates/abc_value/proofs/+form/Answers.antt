@@ -4,9 +4,9 @@ use Rattle.abc_value.specs.Tree.{trees}
 use Rattle.abc_value.specs.Forms.{forms_of}
 use Rattle.abc_value.specs.Regular.{IsRegular}
 use Rattle.abc_value.specs.View.{node_tree, as_pair}
-use Rattle.abc_value.proofs.Comparing.{part_below}
-use Rattle.abc_value.proofs.ShapeSteps.{forms_turn, forms_stop, forms_done}
-use Rattle.abc_value.proofs.Tables.{regular_pairs}
+use Rattle.abc_value.proofs.ordering.Comparing.{part_below}
+use Rattle.abc_value.proofs.forms.ShapeSteps.{forms_turn, forms_stop, forms_done}
+use Rattle.abc_value.proofs.tables.Tables.{regular_pairs}
 use Rattle.abc_value.proofs.+form.Goals as goal
 
 pub forming::shapes_of-of-requires : goal.forming::shapes_of-of-requires

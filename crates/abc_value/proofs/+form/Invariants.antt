@@ -2,7 +2,7 @@ use Rattle.std.proofs.Common.{◌≡◌, ◌+◌, ◌*◌, drop}
 use Rattle.abc_value.specs.Tree.{trees}
 use Rattle.abc_value.specs.Sizes.{height_of, trees_height}
 use Rattle.abc_value.specs.Forms.{forms_of}
-use Rattle.abc_value.proofs.ShapeSteps.{in_front}
+use Rattle.abc_value.proofs.forms.ShapeSteps.{in_front}
 use Rattle.abc_value.proofs.+form.Given as goal
 
 abbrev pub decreases-shape::Shape::of : goal.decreases-shape::Shape::of

@@ -1,6 +1,6 @@
 use Rattle.std.proofs.Common.{arith, sym, ◌∙◌}
 use Rattle.abc_value.specs.Forms.{forms, join, join_each}
-use Rattle.abc_value.proofs.ShapeSteps.{shape_below, join_each_uneven, join_each_turn, join_each_stop, join_each_done}
+use Rattle.abc_value.proofs.forms.ShapeSteps.{shape_below, join_each_uneven, join_each_turn, join_each_stop, join_each_done}
 use Rattle.abc_value.proofs.+join.Goals as goal
 
 pub joining::join_fields-returns-then-a-b : goal.joining::join_fields-returns-then-a-b

@@ -1,7 +1,7 @@
 use Rattle.std.proofs.Common.{◌≡◌, ◌+◌, ◌*◌, drop}
 use Rattle.abc_value.specs.Forms.{forms, join_each}
 use Rattle.abc_value.specs.FormCode.{depth_of, forms_depth}
-use Rattle.abc_value.proofs.ShapeSteps.{in_front}
+use Rattle.abc_value.proofs.forms.ShapeSteps.{in_front}
 use Rattle.abc_value.proofs.+join.Given as goal
 
 abbrev pub decreases-shape::Shape::join : goal.decreases-shape::Shape::join

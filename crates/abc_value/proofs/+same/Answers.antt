@@ -1,8 +1,8 @@
 use Rattle.std.proofs.Common.{arith, sym, ◌∙◌}
 use Rattle.abc_value.specs.Forms.{forms}
 use Rattle.abc_value.specs.inner.Kept.{same_forms}
-use Rattle.abc_value.proofs.ShapeSteps.{shape_below}
-use Rattle.abc_value.proofs.SameForms.{same_uneven, same_stop, same_turn, same_done}
+use Rattle.abc_value.proofs.forms.ShapeSteps.{shape_below}
+use Rattle.abc_value.proofs.forms.SameForms.{same_uneven, same_stop, same_turn, same_done}
 use Rattle.abc_value.proofs.+same.Goals as goal
 
 pub common::are_same-returns-then-a-b : goal.common::are_same-returns-then-a-b

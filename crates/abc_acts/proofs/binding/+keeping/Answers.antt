@@ -3,7 +3,8 @@ use Rattle.abc_tree.specs.Lists.{flat}
 use Rattle.abc_tree.specs.RegularItems.{bound_names}
 use Rattle.abc_tree.specs.declared.formulas.Bound.{the_lemmas as bounds}
 use Rattle.abc_meaning.specs.Bindings.{held}
-use Rattle.abc_acts.specs.Views.{held_of, scope_of, state_of}
+use Rattle.abc_state.specs.Views.{scope_of, state_of}
+use Rattle.abc_acts.specs.Views.{held_of}
 use Rattle.abc_acts.proofs.binding.+keeping.Goals as goal
 
 pub keep_bound-returns-in-Several : goal.keep_bound-returns-in-Several

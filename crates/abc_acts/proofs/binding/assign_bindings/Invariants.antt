@@ -2,7 +2,7 @@ use Rattle.std.proofs.Common.{◌≡◌, List, Bool, Some, map}
 use Rattle.std.specs.Vec.Iter.{into_iter_items}
 use Rattle.abc_num.specs.declared.lines.RawLine.{RawLine}
 use Rattle.abc_meaning.specs.Bindings.{assign_all}
-use Rattle.abc_acts.specs.Views.{scope_of, state_of}
+use Rattle.abc_state.specs.Views.{scope_of, state_of}
 use Rattle.abc_acts.proofs.binding.assign_bindings.Given as goal
 
 abbrev pub invariant-loop-name : goal.invariant-loop-name

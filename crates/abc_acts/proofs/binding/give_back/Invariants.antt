@@ -2,7 +2,8 @@ use Rattle.std.proofs.Common.{◌≡◌, List, Bool}
 use Rattle.std.specs.Vec.Iter.{into_iter_items}
 use Rattle.abc_num.specs.declared.lines.RawLine.{RawLine}
 use Rattle.abc_meaning.specs.Bindings.{assign_all}
-use Rattle.abc_acts.specs.Views.{held_of, scope_of, state_of}
+use Rattle.abc_state.specs.Views.{scope_of, state_of}
+use Rattle.abc_acts.specs.Views.{held_of}
 use Rattle.abc_acts.proofs.binding.give_back.Given as goal
 
 abbrev pub invariant-loop-held : goal.invariant-loop-held

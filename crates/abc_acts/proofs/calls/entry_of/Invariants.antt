@@ -2,7 +2,7 @@ use Rattle.std.proofs.Common.{◌≡◌, ◌≤◌, Some, drop, take, map, lengt
 use Rattle.std.specs.Prelude.{reverse}
 use Rattle.abc_tree.specs.RegularItems.{numbers}
 use Rattle.abc_meaning.specs.PutBack.{entry}
-use Rattle.abc_acts.specs.Views.{actual_of, formal_of}
+use Rattle.abc_state.specs.Views.{actual_of, formal_of}
 use Rattle.abc_acts.proofs.calls.entry_of.Given as goal
 
 abbrev pub invariant-actuals : goal.invariant-actuals

@@ -1,5 +1,5 @@
 use Rattle.std.proofs.Common.{map, ap, ◌∙◌}
-use Rattle.abc_acts.specs.Views.{at, formal_of, scope_of, state_of}
+use Rattle.abc_state.specs.Views.{at, formal_of, scope_of, state_of}
 use Rattle.abc_acts.proofs.Acting.{left_so}
 use Rattle.abc_acts.proofs.calls.leave.Goals as goal
 

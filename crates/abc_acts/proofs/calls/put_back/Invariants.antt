@@ -1,7 +1,7 @@
 use Rattle.std.proofs.Common.{◌≡◌, List, ℕ, Bool, map, drop}
 use Rattle.abc_num.specs.declared.lines.RawLine.{RawLine}
 use Rattle.abc_meaning.specs.PutBack.{put_back}
-use Rattle.abc_acts.specs.Views.{at, formal_of, scope_of, state_of}
+use Rattle.abc_state.specs.Views.{at, formal_of, scope_of, state_of}
 use Rattle.abc_acts.proofs.calls.put_back.Given as goal
 
 abbrev pub invariant-loop-formal : goal.invariant-loop-formal

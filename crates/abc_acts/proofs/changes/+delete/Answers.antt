@@ -1,6 +1,6 @@
 use Rattle.std.proofs.Common.{◌∙◌, refl}
 use Rattle.std.proofs.lemmas.Result.{err_from_is_err_and}
-use Rattle.abc_acts.specs.Views.{at, scope_of, state_of}
+use Rattle.abc_state.specs.Views.{at, scope_of, state_of}
 use Rattle.abc_acts.proofs.Rows.{deletes_next, goes_next, stops_next}
 use Rattle.abc_acts.proofs.changes.+delete.Goals as goal
 

@@ -2,7 +2,7 @@ use Rattle.std.proofs.Common.{◌≡◌, List, ℕ, Bool, map, drop}
 use Rattle.abc_num.specs.declared.lines.RawLine.{RawLine}
 use Rattle.abc_meaning.specs.State.{row}
 use Rattle.abc_meaning.specs.Changing.{parts_all, delete}
-use Rattle.abc_acts.specs.Views.{at, address_of, scope_of, state_of}
+use Rattle.abc_state.specs.Views.{at, address_of, scope_of, state_of}
 use Rattle.abc_acts.proofs.changes.+delete.Given as goal
 
 abbrev pub invariant-delete_all-loop-spot : goal.invariant-delete_all-loop-spot

@@ -1,7 +1,7 @@
 use Rattle.std.proofs.Common.{map, option_map, sym, ap, ◌∙◌}
 use Rattle.std.specs.Prelude.{is_some}
 use Rattle.abc_meaning.specs.PutBack.{along}
-use Rattle.abc_acts.specs.Views.{step_of}
+use Rattle.abc_state.specs.Views.{step_of}
 use Rattle.abc_acts.proofs.Steps.{along_none}
 use Rattle.abc_acts.proofs.changes.+has_part.Goals as goal
 

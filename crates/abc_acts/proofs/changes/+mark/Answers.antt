@@ -1,6 +1,6 @@
 use Rattle.std.proofs.Common.{◌∙◌, refl}
 use Rattle.std.proofs.lemmas.Result.{err_from_is_err_and}
-use Rattle.abc_acts.specs.Views.{at, state_of}
+use Rattle.abc_state.specs.Views.{at, state_of}
 use Rattle.abc_acts.proofs.Rows.{marks_next, goes_next, stops_next}
 use Rattle.abc_acts.proofs.changes.+mark.Goals as goal
 

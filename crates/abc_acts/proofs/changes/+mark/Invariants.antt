@@ -5,7 +5,7 @@ use Rattle.abc_meaning.specs.State.{row}
 use Rattle.abc_meaning.specs.Here.{Scope}
 use Rattle.abc_meaning.specs.Changing.{parts_all}
 use Rattle.abc_meaning.specs.PutBack.{mark_all}
-use Rattle.abc_acts.specs.Views.{at, address_of, state_of}
+use Rattle.abc_state.specs.Views.{at, address_of, state_of}
 use Rattle.abc_acts.proofs.changes.+mark.Given as goal
 
 abbrev pub invariant-mark_spots-loop-spot : goal.invariant-mark_spots-loop-spot

@@ -3,8 +3,8 @@ use Rattle.std.specs.List.{list_all}
 use Rattle.abc_meaning.specs.State.{several, row}
 use Rattle.abc_meaning.specs.Changing.{parts}
 use Rattle.abc_meaning.specs.PutBack.{has_value}
-use Rattle.abc_acts.specs.Views.{address_of, scope_of, state_of}
-use Rattle.abc_acts.proofs.JoinedPlaces.{several_places}
+use Rattle.abc_state.specs.Views.{address_of, scope_of, state_of}
+use Rattle.abc_state.proofs.JoinedPlaces.{several_places}
 use Rattle.abc_acts.proofs.changes.+values.Goals as goal
 
 pub has_values-returns-in-Several : goal.has_values-returns-in-Several

@@ -4,7 +4,7 @@ use Rattle.abc_num.specs.declared.lines.RawLine.{RawLine}
 use Rattle.abc_meaning.specs.State.{row}
 use Rattle.abc_meaning.specs.Changing.{parts_all}
 use Rattle.abc_meaning.specs.PutBack.{has_value}
-use Rattle.abc_acts.specs.Views.{address_of, scope_of, state_of}
+use Rattle.abc_state.specs.Views.{address_of, scope_of, state_of}
 use Rattle.abc_acts.proofs.changes.+values.Given as goal
 
 abbrev pub invariant-have_values-loop-spot : goal.invariant-have_values-loop-spot

@@ -1,7 +1,7 @@
 use Rattle.std.proofs.Common.{map, sym, ap, ◌∙◌, Some}
 use Rattle.abc_value.specs.declared.faults.RunFault.TheVariants.{NoValue}
 use Rattle.abc_meaning.specs.Here.{assign}
-use Rattle.abc_acts.specs.Views.{at, step_of, scope_of, state_of}
+use Rattle.abc_state.specs.Views.{at, step_of, scope_of, state_of}
 use Rattle.abc_acts.specs.inner.Changing.{change_of}
 use Rattle.abc_acts.proofs.Acting.{change_stops, none_changes}
 use Rattle.abc_acts.proofs.changes.change_old.Goals as goal

@@ -1,6 +1,6 @@
 use Rattle.std.proofs.Common.{◌≡◌, ◌+◌, ℕ, map, drop}
 use Rattle.abc_meaning.specs.Changing.{formal_named}
-use Rattle.abc_acts.specs.Views.{formal_of}
+use Rattle.abc_state.specs.Views.{formal_of}
 use Rattle.abc_acts.specs.inner.Changing.{IsFirstOf}
 use Rattle.abc_acts.proofs.changes.place_of.Given as goal
 

@@ -1,7 +1,7 @@
 use Rattle.std.proofs.Common.{map, option_map, ap, ◌∙◌}
 use Rattle.abc_value.specs.declared.faults.RunFault.TheVariants.{NoKey}
 use Rattle.abc_meaning.specs.Changing.{changed}
-use Rattle.abc_acts.specs.Views.{step_of}
+use Rattle.abc_state.specs.Views.{step_of}
 use Rattle.abc_acts.specs.inner.Changing.{change_of}
 use Rattle.abc_acts.proofs.Steps.{nothing_there}
 use Rattle.abc_acts.proofs.changing.+change.Goals as goal

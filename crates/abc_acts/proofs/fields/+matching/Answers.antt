@@ -1,9 +1,9 @@
 use Rattle.std.proofs.Common.{◌≡◌, ◌≤◌, ◌&&◌, ◌+◌, length, map, drop, sym, subst, ap, ◌∙◌, arith, None, Some, is_some, is_none, slice_get}
 use Rattle.abc_value.specs.Parts.{parts_of}
 use Rattle.abc_meaning.specs.Changing.{fielded}
-use Rattle.abc_acts.specs.Views.{address_of}
+use Rattle.abc_state.specs.Views.{address_of}
 use Rattle.abc_acts.specs.inner.Fields.{have_match}
-use Rattle.abc_acts.proofs.JoinedPlaces.{several_places}
+use Rattle.abc_state.proofs.JoinedPlaces.{several_places}
 use Rattle.abc_acts.proofs.Matching.{match_lost, match_next, match_end, several_match}
 use Rattle.abc_acts.proofs.fields.+matching.Goals as goal
 

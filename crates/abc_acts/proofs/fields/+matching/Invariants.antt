@@ -1,6 +1,6 @@
 use Rattle.std.proofs.Common.{◌≡◌, map, drop}
 use Rattle.abc_value.specs.Parts.{parts_of}
-use Rattle.abc_acts.specs.Views.{address_of}
+use Rattle.abc_state.specs.Views.{address_of}
 use Rattle.abc_acts.specs.inner.Fields.{have_match}
 use Rattle.abc_acts.proofs.fields.+matching.Given as goal
 

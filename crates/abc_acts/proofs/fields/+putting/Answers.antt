@@ -2,10 +2,10 @@ use Rattle.std.proofs.Common.{◌≡◌, ◌≤◌, length, map, true, false, sy
 use Rattle.std.proofs.lemmas.Result.{err_from_is_err_and}
 use Rattle.abc_value.specs.Parts.{parts_of}
 use Rattle.abc_meaning.specs.Changing.{fielded, put_parts}
-use Rattle.abc_acts.specs.Agrees.{Agrees}
-use Rattle.abc_acts.specs.Views.{at, address_of, scope_of, state_of}
+use Rattle.abc_state.specs.Agrees.{Agrees}
+use Rattle.abc_state.specs.Views.{at, address_of, scope_of, state_of}
 use Rattle.abc_acts.specs.inner.Fields.{have_match, fields_at, all_fields_at}
-use Rattle.abc_acts.proofs.JoinedPlaces.{several_places}
+use Rattle.abc_state.proofs.JoinedPlaces.{several_places}
 use Rattle.abc_acts.proofs.Rows.{goes_next, stops_next}
 use Rattle.abc_acts.proofs.Matching.{match_lost, match_next, puts_next, puts_end, first_true, second_true, match_several, several_fields}
 use Rattle.abc_acts.proofs.fields.+putting.Goals as goal

@@ -2,7 +2,7 @@ use Rattle.std.proofs.Common.{◌≡◌, ℕ, List, Bool, true, map, drop}
 use Rattle.abc_num.specs.declared.lines.RawLine.{RawLine}
 use Rattle.abc_value.specs.Parts.{parts_of}
 use Rattle.abc_meaning.specs.Changing.{put_parts}
-use Rattle.abc_acts.specs.Views.{at, address_of, scope_of, state_of}
+use Rattle.abc_state.specs.Views.{at, address_of, scope_of, state_of}
 use Rattle.abc_acts.specs.inner.Fields.{have_match, all_fields_at}
 use Rattle.abc_acts.proofs.fields.+putting.Given as goal
 

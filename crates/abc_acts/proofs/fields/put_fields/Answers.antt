@@ -1,5 +1,5 @@
 use Rattle.std.proofs.Common.{sym, ◌∙◌}
-use Rattle.abc_acts.specs.Views.{at, address_of, scope_of, state_of}
+use Rattle.abc_state.specs.Views.{at, address_of, scope_of, state_of}
 use Rattle.abc_acts.proofs.Acting.{put_lost, put_so}
 use Rattle.abc_acts.proofs.fields.put_fields.Goals as goal
 

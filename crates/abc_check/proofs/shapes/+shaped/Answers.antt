@@ -7,7 +7,7 @@ use Rattle.abc_unify.specs.declared.graph.UnifyFault.{UnifyFault}
 use Rattle.abc_value.specs.Forms.{Form}
 use Rattle.abc_value.specs.FormCode.{depth_of}
 use Rattle.abc_value.specs.ShapeParts.{shape_parts}
-use Rattle.abc_value.proofs.ShapeLooks.{part_falls}
+use Rattle.abc_value.proofs.forms.ShapeLooks.{part_falls}
 use Rattle.abc_scheme.proofs.Later.{later_same, later_then}
 use Rattle.abc_check.specs.inner.Shaped.{AreShapeVars}
 use Rattle.abc_check.proofs.Demanding.{same_fault}

@@ -4,7 +4,7 @@ use Rattle.abc_terms.specs.Sizes.{size}
 use Rattle.std.proofs.lemmas.Option.{slice_get_read}
 use Rattle.abc_value.specs.declared.value.Kind.TheVariants as kinds
 use Rattle.abc_value.specs.Parts.{kind_of, parts_of, keys_of}
-use Rattle.abc_value.proofs.TypesOfValues.{compounds, lists, tables, parts_few, keys_few}
+use Rattle.abc_value.proofs.forms.TypesOfValues.{compounds, lists, tables, parts_few, keys_few}
 use Rattle.abc_ground.proofs.PartLoops.{all_next, all_at, all_done, each_next, each_at, each_none, each_ended, each_past, none_where, size_below}
 use Rattle.abc_ground.proofs.values.+fits.Goals as goal
 

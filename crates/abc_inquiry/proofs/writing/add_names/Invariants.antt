@@ -1,6 +1,6 @@
 use Rattle.std.proofs.Common.{◌-◌, length, drop}
 use Rattle.std.specs.List.{flat_map}
-use Rattle.abc_value.proofs.Appending.{IsGoing}
+use Rattle.abc_value.proofs.printed.Appending.{IsGoing}
 use Rattle.abc_inquiry.specs.Inquiry.{with_lf}
 use Rattle.abc_inquiry.proofs.writing.add_names.Given as goal
 

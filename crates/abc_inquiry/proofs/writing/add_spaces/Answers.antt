@@ -1,7 +1,7 @@
 use Rattle.std.proofs.Common.{◌≡◌, ◌-◌, ◌++◌, ◌∷◌, [], replicate, ap, arith}
 use Rattle.std.proofs.lemmas.Result.{err_from_is_err_and}
 use Rattle.abc_tokens.specs.Bytes.{space}
-use Rattle.abc_value.proofs.Appending.{says, goes_on, ends, refused}
+use Rattle.abc_value.proofs.printed.Appending.{says, goes_on, ends, refused}
 use Rattle.abc_inquiry.proofs.Showing.{space_next}
 use Rattle.abc_inquiry.proofs.writing.add_spaces.Goals as goal
 

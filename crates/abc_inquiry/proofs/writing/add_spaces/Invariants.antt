@@ -1,6 +1,6 @@
 use Rattle.std.proofs.Common.{replicate}
 use Rattle.abc_tokens.specs.Bytes.{space}
-use Rattle.abc_value.proofs.Appending.{IsGoing}
+use Rattle.abc_value.proofs.printed.Appending.{IsGoing}
 use Rattle.abc_inquiry.proofs.writing.add_spaces.Given as goal
 
 abbrev pub invariant-spaces : goal.invariant-spaces

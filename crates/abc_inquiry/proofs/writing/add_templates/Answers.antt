@@ -2,7 +2,7 @@ use Rattle.std.proofs.Common.{◌≡◌, ◌+◌, ◌<◌, ◌++◌, [], Some, N
 use Rattle.std.proofs.lemmas.Option.{slice_get_within}
 use Rattle.std.proofs.lemmas.Result.{err_from_is_err_and}
 use Rattle.std.specs.List.{flat_map}
-use Rattle.abc_value.proofs.Appending.{says, goes_on, ends, refused}
+use Rattle.abc_value.proofs.printed.Appending.{says, goes_on, ends, refused}
 use Rattle.abc_inquiry.specs.Inquiry.{shown_unit}
 use Rattle.abc_inquiry.proofs.Showing.{found_shown, none_shown}
 use Rattle.abc_inquiry.proofs.writing.add_templates.Goals as goal

@@ -1,7 +1,7 @@
 use Rattle.std.proofs.Common.{◌+◌, ◌≤◌, ◌++◌, [], length, drop, arith}
 use Rattle.std.proofs.lemmas.Result.{err_from_is_err_and}
 use Rattle.std.specs.List.{flat_map}
-use Rattle.abc_value.proofs.Appending.{says, goes_on, ends, refused}
+use Rattle.abc_value.proofs.printed.Appending.{says, goes_on, ends, refused}
 use Rattle.abc_inquiry.specs.Inquiry.{shown_line}
 use Rattle.abc_inquiry.proofs.Showing.{next_shown, all_shown}
 use Rattle.abc_inquiry.proofs.writing.add_unit_lines.Goals as goal

@@ -1,6 +1,6 @@
 use Rattle.std.proofs.Common.{drop}
 use Rattle.std.specs.List.{flat_map}
-use Rattle.abc_value.proofs.Appending.{IsGoing}
+use Rattle.abc_value.proofs.printed.Appending.{IsGoing}
 use Rattle.abc_inquiry.specs.Inquiry.{shown_line}
 use Rattle.abc_inquiry.proofs.writing.add_unit_lines.Given as goal
 

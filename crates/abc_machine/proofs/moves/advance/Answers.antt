@@ -2,7 +2,7 @@ use Rattle.std.proofs.Common.{map, ap, ◌∙◌}
 use Rattle.abc_outside.specs.Lines.{none_yet}
 use Rattle.abc_outside.proofs.Called.{called_for}
 use Rattle.abc_meaning.specs.Laws.{wants_line}
-use Rattle.abc_acts.specs.Views.{scope_of}
+use Rattle.abc_state.specs.Views.{scope_of}
 use Rattle.abc_pending.specs.Leads.{leads}
 use Rattle.abc_pending.specs.Steps.{state_with}
 use Rattle.abc_pending.specs.Views.{frame_of}

@@ -1,5 +1,5 @@
 use Rattle.std.proofs.Common.{map, refl, sym, ap, ◌∙◌, subst, inl}
-use Rattle.abc_acts.specs.Views.{scope_of, state_of}
+use Rattle.abc_state.specs.Views.{scope_of, state_of}
 use Rattle.abc_pending.specs.Leads.{below, resume}
 use Rattle.abc_pending.specs.Views.{begin_of, frame_of, next_weight, reply_of}
 use Rattle.abc_pending.specs.Weights.{IsWithin, frame_weight}

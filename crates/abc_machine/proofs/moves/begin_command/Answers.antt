@@ -1,6 +1,6 @@
 use Rattle.std.proofs.Common.{map, inl, inr, Err, ap}
 use Rattle.abc_outside.specs.Lines.{none_yet}
-use Rattle.abc_acts.specs.Views.{scope_of}
+use Rattle.abc_state.specs.Views.{scope_of}
 use Rattle.abc_pending.specs.Steps.{state_with}
 use Rattle.abc_pending.specs.Views.{frame_of, next_weight}
 use Rattle.abc_pending.specs.Weights.{action_size}

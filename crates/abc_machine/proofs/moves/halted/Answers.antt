@@ -1,6 +1,6 @@
 use Rattle.std.proofs.Common.{subst}
 use Rattle.abc_meaning.specs.State.{wrong}
-use Rattle.abc_acts.specs.Agrees.{Halts}
+use Rattle.abc_state.specs.Agrees.{Halts}
 use Rattle.abc_machine.proofs.Moving.{ends_stopped}
 use Rattle.abc_machine.proofs.moves.halted.Goals as goal
 

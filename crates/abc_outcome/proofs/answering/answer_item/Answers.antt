@@ -1,4 +1,4 @@
-use Rattle.std.proofs.Common.{◌≡◌, ◌∙◌, inr, refl, ap}
+use Rattle.std.proofs.Common.{◌∙◌, inr, refl, ap}
 use Rattle.std.specs.Map.{keys_of}
 use Rattle.abc_store.specs.View.{work_of}
 use Rattle.abc_outcome.specs.Outcome.{outcome}

@@ -11,7 +11,7 @@ use Rattle.abc_outcome.specs.declared.answering.AnswerFault.TheVariants.{Memory}
 use Rattle.abc_outcome.specs.inner.Answering.{Answers}
 use Rattle.abc_outcome.specs.Checks.{TellsOf}
 use Rattle.abc_outcome.specs.Names.{fault_name}
-use Rattle.abc_outcome.specs.Outcome.{Behind, Outcome, ends_with, inquiry_outcome, on_item}
+use Rattle.abc_outcome.specs.Outcome.{Behind, Outcome, ends_with, inquiry_outcome}
 use Rattle.abc_outcome.specs.Reply.{fault_line, said}
 use Rattle.abc_outcome.specs.inner.Settling.{Settles}
 use Rattle.abc_outcome.specs.inner.Steps.{ComesOf, HasTypeLine, IsSpelledItem, Refuses, item_in}

@@ -1,11 +1,11 @@
-use Rattle.std.proofs.Common.{◌≡◌, List, Some, sym, subst}
+use Rattle.std.proofs.Common.{List, Some, sym, subst}
 use Rattle.std.specs.Prelude.{IfOk}
 use Rattle.abc_groups.specs.Program.{LAST_LINE}
-use Rattle.abc_ground.specs.Groups.{Cut, whole}
+use Rattle.abc_ground.specs.Groups.{whole}
 use Rattle.abc_ground.specs.Typable.{IsTypableWith, Values}
 use Rattle.abc_tree.specs.declared.commands.Unit.{Unit as Routine}
 use Rattle.abc_check.specs.Cuts.{CutsAreSpelled}
-use Rattle.abc_outcome.specs.Checks.{IsUpToDate, TakesCommand, TellsTypeLine}
+use Rattle.abc_outcome.specs.Checks.{IsUpToDate, TellsTypeLine}
 use Rattle.abc_store.proofs.Spelled.{command_spelled, units_spelled}
 use Rattle.abc_outcome.proofs.Typed.{command_line}
 use Rattle.abc_outcome.proofs.checks.command_type_line.Goals as goal

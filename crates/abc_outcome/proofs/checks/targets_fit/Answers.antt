@@ -1,4 +1,4 @@
-use Rattle.std.proofs.Common.{◌≡◌, List, Some, sym, subst}
+use Rattle.std.proofs.Common.{List, Some, sym, subst}
 use Rattle.abc_ground.specs.Groups.{whole}
 use Rattle.abc_tree.specs.declared.commands.Unit.{Unit as Routine}
 use Rattle.abc_check.specs.Cuts.{CutsAreSpelled}

@@ -1,4 +1,4 @@
-use Rattle.std.proofs.Common.{◌≡◌, ℕ, List, length, sym, subst}
+use Rattle.std.proofs.Common.{ℕ, List, length, sym, subst}
 use Rattle.std.specs.Prelude.{IfOk}
 use Rattle.abc_ground.specs.Groups.{with_cut}
 use Rattle.abc_ground.specs.Typable.{IsTypable, Values}

@@ -1,4 +1,4 @@
-use Rattle.std.proofs.Common.{◌≡◌, None, Some, Ok, subst, [], List, ℕ, Option, codes}
+use Rattle.std.proofs.Common.{None, Some, Ok, subst, [], List, ℕ, Option, codes}
 use Rattle.abc_groups.specs.Program.{LAST_LINE}
 use Rattle.abc_outcome.specs.Checks.{TakesCommand, TellsTypeLine}
 use Rattle.abc_outcome.specs.Reply.{fault_line, said}

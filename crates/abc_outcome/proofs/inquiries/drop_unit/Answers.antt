@@ -1,4 +1,4 @@
-use Rattle.std.proofs.Common.{rules, ◌≡◌, ◌∙◌, List, ℕ, false, [], refl, ap, subst}
+use Rattle.std.proofs.Common.{rules, ◌∙◌, List, ℕ, false, [], refl, ap, subst}
 use Rattle.abc_tree.specs.Units.{AreRising}
 use Rattle.abc_store.specs.Commit.{stored}
 use Rattle.abc_store.specs.View.{work_of}

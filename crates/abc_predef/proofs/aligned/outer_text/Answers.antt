@@ -1,4 +1,4 @@
-use Rattle.abc_value.proofs.Outers.{outer_characters}
+use Rattle.abc_value.proofs.printed.Outers.{outer_characters}
 use Rattle.abc_predef.proofs.aligned.outer_text.Goals as goal
 
 pub returns-in-Ok-clause-characters : goal.returns-in-Ok-clause-characters

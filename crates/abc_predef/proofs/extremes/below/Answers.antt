@@ -1,6 +1,6 @@
 use Rattle.std.proofs.Common.{sym, ap, ◌∙◌}
 use Rattle.std.specs.Option.{option_map}
-use Rattle.abc_value.proofs.Itemised.{elements_count}
+use Rattle.abc_value.proofs.trees.Itemised.{elements_count}
 use Rattle.abc_predef.proofs.Elements.{list_is_train}
 use Rattle.abc_predef.proofs.Ends.{all_below}
 use Rattle.abc_predef.proofs.extremes.below.Goals as goal

@@ -2,7 +2,7 @@ use Rattle.std.proofs.Common.{◌≡◌, ℕ, Option, sym, ap, ◌∙◌, subst}
 use Rattle.std.specs.List.{filter}
 use Rattle.std.specs.Option.{option_map}
 use Rattle.abc_value.specs.Items.{elements_of}
-use Rattle.abc_value.proofs.Itemised.{elements_count}
+use Rattle.abc_value.proofs.trees.Itemised.{elements_count}
 use Rattle.abc_predef.specs.declared.extremes.Extreme.{Extreme}
 use Rattle.abc_predef.specs.inner.Places.{IsPlaceOfBest, is_wanted}
 use Rattle.abc_predef.proofs.Elements.{list_is_train}

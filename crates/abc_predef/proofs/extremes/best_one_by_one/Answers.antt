@@ -5,7 +5,7 @@ use Rattle.abc_value.specs.Tree.{Tree}
 use Rattle.abc_value.specs.Items.{elements_of}
 use Rattle.std.proofs.lemmas.List.{take_all}
 use Rattle.abc_predef.specs.inner.Places.{IsPlaceOfBest, is_wanted}
-use Rattle.abc_value.proofs.Itemised.{elements_count}
+use Rattle.abc_value.proofs.trees.Itemised.{elements_count}
 use Rattle.abc_predef.proofs.Bests.{wanted_more}
 use Rattle.abc_predef.proofs.extremes.best_one_by_one.Goals as goal
 

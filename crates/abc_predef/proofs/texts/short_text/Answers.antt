@@ -1,7 +1,7 @@
 use Rattle.std.proofs.Common.{refl, Ok}
 use Rattle.abc_value.specs.Tree.{text}
-use Rattle.abc_value.proofs.Making.{text_small}
-use Rattle.abc_value.proofs.Itemised.{small_answer}
+use Rattle.abc_value.proofs.trees.Making.{text_small}
+use Rattle.abc_value.proofs.trees.Itemised.{small_answer}
 use Rattle.abc_predef.proofs.texts.short_text.Goals as goal
 
 pub returns : goal.returns

@@ -2,7 +2,7 @@ use Rattle.std.proofs.Common.{◌+◌, ◌-◌, ◌/◌, arith, sym, ap, ◌∙�
 use Rattle.std.specs.Option.{option_map}
 use Rattle.abc_value.specs.Items.{elements_of}
 use Rattle.abc_predef.specs.inner.Places.{is_on}
-use Rattle.abc_value.proofs.Itemised.{elements_count}
+use Rattle.abc_value.proofs.trees.Itemised.{elements_count}
 use Rattle.abc_predef.proofs.Elements.{list_is_train, list_part_there, list_part_is, list_elements}
 use Rattle.abc_predef.proofs.Halves.{between_all, move_low, move_high, halves_met}
 use Rattle.abc_predef.proofs.Ends.{front_met}

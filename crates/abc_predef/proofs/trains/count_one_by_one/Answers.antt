@@ -5,7 +5,7 @@ use Rattle.abc_value.specs.Order.{order}
 use Rattle.abc_value.specs.Items.{elements_of}
 use Rattle.std.proofs.lemmas.List.{take_all}
 use Rattle.abc_predef.specs.inner.Places.{element_at}
-use Rattle.abc_value.proofs.Itemised.{elements_count}
+use Rattle.abc_value.proofs.trees.Itemised.{elements_count}
 use Rattle.abc_predef.proofs.Halves.{count_more, index_of_equal, byte_is}
 use Rattle.abc_predef.proofs.trains.count_one_by_one.Goals as goal
 

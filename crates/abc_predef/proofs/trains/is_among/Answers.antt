@@ -4,7 +4,7 @@ use Rattle.std.specs.Ordering.{is_eq, ordering_index}
 use Rattle.std.proofs.lemmas.List.{take_all}
 use Rattle.abc_value.specs.Order.{order}
 use Rattle.abc_value.specs.Items.{elements_of}
-use Rattle.abc_value.proofs.Itemised.{elements_count}
+use Rattle.abc_value.proofs.trees.Itemised.{elements_count}
 use Rattle.abc_predef.specs.inner.Places.{element_at}
 use Rattle.abc_predef.proofs.Halves.{one_at, index_of_equal}
 use Rattle.abc_predef.proofs.trains.is_among.Goals as goal

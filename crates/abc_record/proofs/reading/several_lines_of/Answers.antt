@@ -1,4 +1,3 @@
-use Rattle.std.proofs.Common.{◌≡◌}
 use Rattle.std.proofs.lemmas.Result.{err_from_is_err_and}
 use Rattle.abc_record.specs.inner.Reading.{times, line_of}
 use Rattle.abc_record.proofs.Times.{goes_on, ends, is_done}

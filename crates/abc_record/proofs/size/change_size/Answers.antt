@@ -1,6 +1,6 @@
-use Rattle.std.proofs.Common.{◌+◌, length, ap, subst, arith}
+use Rattle.std.proofs.Common.{length, ap, subst, arith}
 use Rattle.std.proofs.Math.Facts.{Fits-of_lt}
-use Rattle.abc_value.proofs.Making.{regular_sizes}
+use Rattle.abc_value.proofs.trees.Making.{regular_sizes}
 use Rattle.abc_record.specs.declared.change.Change.TheVariants.{SetTarget}
 use Rattle.abc_record.specs.Kept.{IsKept}
 use Rattle.abc_record.specs.Spelling.{spelled_change}

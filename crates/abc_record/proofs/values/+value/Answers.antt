@@ -1,4 +1,4 @@
-use Rattle.std.proofs.Common.{◌≡◌, sym, ap, ◌∙◌, arith}
+use Rattle.std.proofs.Common.{arith}
 use Rattle.std.proofs.lemmas.Result.{err_from_is_err_and}
 use Rattle.abc_record.specs.inner.Reading.{times, value_of, pair_of}
 use Rattle.abc_record.proofs.Times.{goes_on, ends, is_done}

@@ -1,4 +1,4 @@
-use Rattle.std.proofs.Common.{◌≡◌, ◌-◌, ◌≤◌, drop}
+use Rattle.std.proofs.Common.{◌≡◌, ◌-◌, drop}
 use Rattle.abc_record.specs.inner.Reading.{are_ordered}
 use Rattle.abc_record.proofs.values.are_ordered.Given as goal
 

@@ -1,4 +1,4 @@
-use Rattle.std.proofs.Common.{◌≡◌, ◌-◌, ◌≤◌, drop}
+use Rattle.std.proofs.Common.{◌≡◌, ◌-◌, drop}
 use Rattle.abc_record.specs.inner.Reading.{are_rising}
 use Rattle.abc_record.proofs.values.are_rising.Given as goal
 

@@ -1,5 +1,4 @@
-use Rattle.std.proofs.Common.{◌≡◌, true, cond, List, sym, ap, ◌∙◌, subst, rules}
-use Rattle.std.proofs.lemmas.Bool.{not-false}
+use Rattle.std.proofs.Common.{◌≡◌, true, List, subst, rules}
 use Rattle.abc_value.specs.Tree.{Tree, list, trees}
 use Rattle.abc_value.specs.Changes.{in_order}
 use Rattle.abc_record.specs.inner.Reading.{Gives, sized, are_ordered, list_of}

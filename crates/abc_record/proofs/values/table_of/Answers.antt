@@ -1,4 +1,4 @@
-use Rattle.std.proofs.Common.{◌≡◌, ◌<◌, ◌≤◌, true, false, ltb, cond, List, [], ◌∷◌, length, sym, ap, ◌∙◌, subst, rules, arith, refl}
+use Rattle.std.proofs.Common.{◌≡◌, true, false, ltb, List, [], ◌∷◌, length, subst, rules, arith, refl}
 use Rattle.abc_value.specs.Tree.{Tree, table, table_of as listed_table, pairs}
 use Rattle.abc_value.specs.Changes.{placed}
 use Rattle.abc_record.specs.inner.Reading.{Gives, sized, are_rising, table_of}

@@ -3,7 +3,7 @@ use Rattle.std.proofs.Math.Facts.{Fits-of_lt}
 use Rattle.std.specs.List.{flat_map}
 use Rattle.std.specs.Option.{option_map}
 use Rattle.abc_value.specs.Parts.{parts_of, pairs_of, keys_of}
-use Rattle.abc_value.proofs.Lower.{part_lower, key_lower}
+use Rattle.abc_value.proofs.trees.Lower.{part_lower, key_lower}
 use Rattle.abc_record.specs.Bytes.{in_four}
 use Rattle.abc_record.specs.Spelling.{spelled_value}
 use Rattle.abc_record.specs.inner.Writing.{spelled_pair}

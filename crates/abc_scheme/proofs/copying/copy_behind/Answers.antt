@@ -10,7 +10,7 @@ use Rattle.abc_terms.specs.Renamed.{number_in, renamed}
 use Rattle.abc_unify.specs.Graphs.{IsUnsolvable}
 use Rattle.abc_scheme.specs.inner.Places.{placed_vars}
 use Rattle.abc_scheme.specs.inner.Copies.{equals}
-use Rattle.abc_scheme.proofs.Copies.{asked, asked_in, copied, refused}
+use Rattle.abc_scheme.proofs.Copies.{asked_in, copied, refused}
 use Rattle.abc_scheme.proofs.Later.{later_demands}
 use Rattle.abc_scheme.proofs.copying.copy_behind.Goals as goal
 

@@ -1,8 +1,6 @@
-use Rattle.std.proofs.Common.{◌∙◌, List, length, take, ap, sym, subst}
+use Rattle.std.proofs.Common.{List, length, sym, subst}
 use Rattle.abc_terms.specs.declared.term.VarId.{VarId}
 use Rattle.abc_terms.specs.Nodes.{AreIn}
-use Rattle.abc_terms.specs.Renamed.{number_in}
-use Rattle.abc_scheme.specs.inner.Places.{placed_vars}
 use Rattle.abc_scheme.proofs.Copies.{in_take}
 use Rattle.abc_scheme.proofs.copying.first_placed.Goals as goal
 

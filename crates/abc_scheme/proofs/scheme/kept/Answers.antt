@@ -4,7 +4,7 @@ use Rattle.abc_terms.specs.declared.demand.Demand.{Demand}
 use Rattle.abc_terms.specs.declared.term.VarId.{VarId}
 use Rattle.abc_terms.specs.Nodes.{DemandIn}
 use Rattle.abc_terms.specs.Renamed.{number_in, renamed}
-use Rattle.abc_unify.specs.Forms.{AreForms, all_said}
+use Rattle.abc_unify.specs.Forms.{all_said}
 use Rattle.abc_unify.proofs.Deciding.{forms_said_in}
 use Rattle.abc_scheme.specs.inner.Places.{placed_vars}
 use Rattle.abc_scheme.proofs.Exactness.{kept_exact, kept_inside, known_made}

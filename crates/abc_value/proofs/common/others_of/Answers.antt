@@ -1,7 +1,7 @@
 use Rattle.std.proofs.Common.{[], refl}
 use Rattle.std.specs.List.{between}
 use Rattle.abc_value.specs.inner.Keeps.{kept_form, column}
-use Rattle.abc_value.proofs.KeepingSteps.{if_ok, others_kept, front_length}
+use Rattle.abc_value.proofs.kept_forms.KeepingSteps.{if_ok, others_kept, front_length}
 use Rattle.abc_value.proofs.common.others_of.Goals as goal
 
 pub returns : goal.returns

@@ -2,9 +2,9 @@ use Rattle.std.proofs.Common.{◌+◌, List, ◌∷◌, [], get_or, sym, ap, ◌
 use Rattle.std.proofs.lemmas.Result.{err_from_is_err_and}
 use Rattle.abc_value.specs.Tree.{Tree, trees, text}
 use Rattle.abc_value.specs.Regular.{IsOrdered}
-use Rattle.abc_value.proofs.Making.{text_small}
-use Rattle.abc_value.proofs.Itemised.{only_memory}
-use Rattle.abc_value.proofs.Ranges.{push_character, characters_ordered}
+use Rattle.abc_value.proofs.trees.Making.{text_small}
+use Rattle.abc_value.proofs.trees.Itemised.{only_memory}
+use Rattle.abc_value.proofs.lists.Ranges.{push_character, characters_ordered}
 use Rattle.abc_value.proofs.items.range_of_characters.Goals as goal
 
 pub returns-in_err-text : goal.returns-in_err-text

@@ -5,7 +5,7 @@ use mir.Syntax.{w128}
 use Rattle.abc_value.specs.Tree.{Tree, trees}
 use Rattle.abc_value.specs.Regular.{IsOrdered}
 use Rattle.abc_value.specs.Items.{count_of}
-use Rattle.abc_value.proofs.Ranges.{too_many_numbers, push_number, numbers_ordered}
+use Rattle.abc_value.proofs.lists.Ranges.{too_many_numbers, push_number, numbers_ordered}
 use Rattle.abc_value.proofs.items.range_of_numbers.Goals as goal
 
 pub returns-then-count : goal.returns-then-count

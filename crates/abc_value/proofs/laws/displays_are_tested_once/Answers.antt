@@ -1,4 +1,4 @@
-use Rattle.abc_value.proofs.Displayed.{depth_first, nothing_counts}
+use Rattle.abc_value.proofs.printed.Displayed.{depth_first, nothing_counts}
 use Rattle.abc_value.proofs.laws.displays_are_tested_once.Goals as goal
 
 pub returns : goal.returns

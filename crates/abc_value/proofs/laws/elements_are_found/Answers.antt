@@ -1,4 +1,4 @@
-use Rattle.abc_value.proofs.Found.{element_there, there_element}
+use Rattle.abc_value.proofs.ordering.Found.{element_there, there_element}
 use Rattle.abc_value.proofs.laws.elements_are_found.Goals as goal
 
 pub returns : goal.returns

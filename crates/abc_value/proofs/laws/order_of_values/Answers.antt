@@ -1,4 +1,4 @@
-use Rattle.abc_value.proofs.OrderLaws.{order-refl, order-reverse, order-same, order-trans}
+use Rattle.abc_value.proofs.ordering.OrderLaws.{order-refl, order-reverse, order-same, order-trans}
 use Rattle.abc_value.proofs.laws.order_of_values.Goals as goal
 
 pub returns : goal.returns

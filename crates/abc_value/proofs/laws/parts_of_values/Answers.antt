@@ -1,5 +1,5 @@
-use Rattle.abc_value.proofs.Lower.{part_lower, key_lower}
-use Rattle.abc_value.proofs.ShapeLooks.{part_falls}
+use Rattle.abc_value.proofs.trees.Lower.{part_lower, key_lower}
+use Rattle.abc_value.proofs.forms.ShapeLooks.{part_falls}
 use Rattle.abc_value.proofs.laws.parts_of_values.Goals as goal
 
 pub returns : goal.returns

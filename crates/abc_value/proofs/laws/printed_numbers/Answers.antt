@@ -1,4 +1,4 @@
-use Rattle.abc_value.proofs.FiniteDecimals.{decimals_are_exact, decimals_are_fewest, quotients_have_no_decimals}
+use Rattle.abc_value.proofs.printed.FiniteDecimals.{decimals_are_exact, decimals_are_fewest, quotients_have_no_decimals}
 use Rattle.abc_value.proofs.laws.printed_numbers.Goals as goal
 
 pub returns-clause-exact : goal.returns-clause-exact

@@ -1,6 +1,6 @@
-use Rattle.abc_value.proofs.Joins.{joined_fits, fits_joined}
-use Rattle.abc_value.proofs.Shaping.{has_form, form_has, a_type, common_exact, elements_exact}
-use Rattle.abc_value.proofs.ProperForms.{proper_type}
+use Rattle.abc_value.proofs.forms.Joins.{joined_fits, fits_joined}
+use Rattle.abc_value.proofs.forms.Shaping.{has_form, form_has, a_type, common_exact, elements_exact}
+use Rattle.abc_value.proofs.forms.ProperForms.{proper_type}
 use Rattle.abc_value.proofs.laws.shapes_of_values.Goals as goal
 
 pub returns : goal.returns

@@ -1,5 +1,5 @@
 use Rattle.std.proofs.Common.{arith}
-use Rattle.abc_value.proofs.LongDivision.{searched_none, searched_more, searched_found, searched_all, searched_less}
+use Rattle.abc_value.proofs.printed.LongDivision.{searched_none, searched_more, searched_found, searched_all, searched_less}
 use Rattle.abc_value.proofs.numeral.places_of.Goals as goal
 
 pub loop-count-init : goal.loop-count-init

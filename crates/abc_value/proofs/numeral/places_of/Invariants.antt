@@ -1,4 +1,4 @@
-use Rattle.abc_value.proofs.LongDivision.{IsSearched}
+use Rattle.abc_value.proofs.printed.LongDivision.{IsSearched}
 use Rattle.abc_value.proofs.numeral.places_of.Given as goal
 
 abbrev pub invariant-loop-count : goal.invariant-loop-count

@@ -1,7 +1,7 @@
 use Rattle.std.proofs.Common.{◌≡◌, arith, ap, ◌∙◌, ◌++◌}
 use Rattle.abc_num.proofs.Decimal.{digit-below}
 use Rattle.abc_value.specs.Printed.{decimals}
-use Rattle.abc_value.proofs.LongDivision.{written_none, written_more, written_less}
+use Rattle.abc_value.proofs.printed.LongDivision.{written_none, written_more, written_less}
 use Rattle.abc_value.proofs.numeral.push_decimals.Goals as goal
 
 pub loop-init : goal.loop-init

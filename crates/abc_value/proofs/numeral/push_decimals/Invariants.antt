@@ -1,4 +1,4 @@
-use Rattle.abc_value.proofs.LongDivision.{IsWritten}
+use Rattle.abc_value.proofs.printed.LongDivision.{IsWritten}
 use Rattle.abc_value.proofs.numeral.push_decimals.Given as goal
 
 abbrev pub invariant-loop : goal.invariant-loop

@@ -5,8 +5,8 @@ use Rattle.abc_value.specs.Tree.{trees, pairs}
 use Rattle.abc_value.specs.View.{as_pair}
 use Rattle.abc_value.specs.Printed.{joined, display, displays, pair_display, pair_displays}
 use Rattle.abc_value.specs.inner.Printing.{lead}
-use Rattle.abc_value.proofs.Comparing.{part_below, entry_below}
-use Rattle.abc_value.proofs.Appending.{left, says, goes_on, ends, refused, left_more, left_all, displays_count, display_at, pairs_count, pair_at}
+use Rattle.abc_value.proofs.ordering.Comparing.{part_below, entry_below}
+use Rattle.abc_value.proofs.printed.Appending.{left, says, goes_on, ends, refused, left_more, left_all, displays_count, display_at, pairs_count, pair_at}
 use Rattle.abc_value.proofs.printing.+print.Goals as goal
 
 pub add_displays-add_display-requires : goal.add_displays-add_display-requires

@@ -4,7 +4,7 @@ use Rattle.abc_value.specs.Tree.{trees, pairs}
 use Rattle.abc_value.specs.Sizes.{height_of, trees_height, pairs_height}
 use Rattle.abc_value.specs.View.{as_pair}
 use Rattle.abc_value.specs.Printed.{joined, displays, pair_displays}
-use Rattle.abc_value.proofs.Appending.{IsGoing, left}
+use Rattle.abc_value.proofs.printed.Appending.{IsGoing, left}
 use Rattle.abc_value.proofs.printing.+print.Given as goal
 
 abbrev pub decreases-add_display : goal.decreases-add_display

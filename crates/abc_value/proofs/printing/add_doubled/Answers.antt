@@ -2,7 +2,7 @@ use Rattle.std.proofs.Common.{◌+◌, ◌++◌, drop, get_or, arith}
 use Rattle.std.proofs.lemmas.Result.{err_from_is_err_and}
 use Rattle.std.specs.List.{flat_map}
 use Rattle.abc_value.specs.Printed.{doubled}
-use Rattle.abc_value.proofs.Appending.{begins, says, goes_on, ends, refused, doubled_more, doubled_all}
+use Rattle.abc_value.proofs.printed.Appending.{begins, says, goes_on, ends, refused, doubled_more, doubled_all}
 use Rattle.abc_value.proofs.printing.add_doubled.Goals as goal
 
 pub loop-c-init : goal.loop-c-init

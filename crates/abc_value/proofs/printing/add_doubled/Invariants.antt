@@ -1,7 +1,7 @@
 use Rattle.std.proofs.Common.{drop}
 use Rattle.std.specs.List.{flat_map}
 use Rattle.abc_value.specs.Printed.{doubled}
-use Rattle.abc_value.proofs.Appending.{IsGoing}
+use Rattle.abc_value.proofs.printed.Appending.{IsGoing}
 use Rattle.abc_value.proofs.printing.add_doubled.Given as goal
 
 abbrev pub invariant-loop-c : goal.invariant-loop-c

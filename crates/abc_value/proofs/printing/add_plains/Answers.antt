@@ -4,7 +4,7 @@ use Rattle.std.specs.Prelude.{codes}
 use Rattle.abc_value.specs.Tree.{trees}
 use Rattle.abc_value.specs.Printed.{joined, plain, plains}
 use Rattle.abc_value.specs.inner.Printing.{lead}
-use Rattle.abc_value.proofs.Appending.{left, says, goes_on, ends, refused, left_more, left_all, plains_count, plain_at}
+use Rattle.abc_value.proofs.printed.Appending.{left, says, goes_on, ends, refused, left_more, left_all, plains_count, plain_at}
 use Rattle.abc_value.proofs.printing.add_plains.Goals as goal
 
 pub returns-in_err-separate : goal.returns-in_err-separate

@@ -2,7 +2,7 @@ use Rattle.std.proofs.Common.{drop}
 use Rattle.std.specs.Prelude.{codes}
 use Rattle.abc_value.specs.Tree.{trees}
 use Rattle.abc_value.specs.Printed.{joined, plains}
-use Rattle.abc_value.proofs.Appending.{IsGoing, left}
+use Rattle.abc_value.proofs.printed.Appending.{IsGoing, left}
 use Rattle.abc_value.proofs.printing.add_plains.Given as goal
 
 abbrev pub invariant-loop-i : goal.invariant-loop-i

@@ -1,7 +1,7 @@
 use Rattle.std.proofs.Common.{sym, ap, ◌∙◌, ◌++◌, subst}
 use Rattle.abc_value.specs.Regular.{AreCharacters}
 use Rattle.abc_value.specs.Printed.{display}
-use Rattle.abc_value.proofs.Outers.{display_characters}
+use Rattle.abc_value.proofs.printed.Outers.{display_characters}
 use Rattle.abc_value.proofs.printing.display_of.Goals as goal
 
 pub returns-clause-characters : goal.returns-clause-characters

@@ -1,7 +1,7 @@
 use Rattle.std.proofs.Common.{sym, ap, ◌∙◌, ◌++◌, subst}
 use Rattle.abc_value.specs.Regular.{AreCharacters}
 use Rattle.abc_value.specs.Printed.{outer}
-use Rattle.abc_value.proofs.Outers.{outer_characters}
+use Rattle.abc_value.proofs.printed.Outers.{outer_characters}
 use Rattle.abc_value.proofs.printing.text_of.Goals as goal
 
 pub returns-clause-characters : goal.returns-clause-characters

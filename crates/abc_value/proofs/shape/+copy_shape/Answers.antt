@@ -1,5 +1,5 @@
 use Rattle.std.proofs.Common.{arith}
-use Rattle.abc_value.proofs.ShapeSteps.{shape_below}
+use Rattle.abc_value.proofs.forms.ShapeSteps.{shape_below}
 use Rattle.abc_value.proofs.shape.+copy_shape.Goals as goal
 
 pub copy_shapes-copy-requires : goal.copy_shapes-copy-requires

@@ -1,5 +1,5 @@
 use Rattle.std.proofs.Common.{arith}
-use Rattle.abc_value.proofs.Making.{regular_sizes}
+use Rattle.abc_value.proofs.trees.Making.{regular_sizes}
 use Rattle.abc_value.proofs.sizes.entry_weight.Goals as goal
 
 pub overflow_add-result : goal.overflow_add-result

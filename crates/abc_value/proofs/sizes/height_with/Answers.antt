@@ -1,6 +1,6 @@
 use Rattle.std.proofs.Common.{arith}
-use Rattle.abc_value.proofs.Making.{regular_sizes}
-use Rattle.abc_value.proofs.Heights.{whole_height}
+use Rattle.abc_value.proofs.trees.Making.{regular_sizes}
+use Rattle.abc_value.proofs.tables.Heights.{whole_height}
 use Rattle.abc_value.proofs.sizes.height_with.Goals as goal
 
 pub overflow_add-gone : goal.overflow_add-gone

@@ -2,7 +2,7 @@ use Rattle.std.proofs.Common.{◌≡◌, ◌+◌, length, sym, ap, ◌∙◌, ar
 use Rattle.std.proofs.lemmas.Result.{err_from_is_err_and}
 use Rattle.abc_value.specs.Tree.{trees}
 use Rattle.abc_value.specs.Sizes.{trees_weight, sizes_fault}
-use Rattle.abc_value.proofs.Making.{compound_too_long, compound_fault, parts_height}
+use Rattle.abc_value.proofs.trees.Making.{compound_too_long, compound_fault, parts_height}
 use Rattle.abc_value.proofs.sizes.sizes_of.Goals as goal
 
 pub returns-then-len-gt-MOST_ELEMENTS-clause-sizes : goal.returns-then-len-gt-MOST_ELEMENTS-clause-sizes

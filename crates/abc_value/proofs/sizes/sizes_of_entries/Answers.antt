@@ -4,7 +4,7 @@ use Rattle.std.proofs.lemmas.Result.{err_from_is_err_and}
 use Rattle.abc_value.specs.Tree.{pairs}
 use Rattle.abc_value.specs.View.{as_pair}
 use Rattle.abc_value.specs.Sizes.{pairs_weight, sizes_fault}
-use Rattle.abc_value.proofs.Collecting.{table_too_long, table_fault, pairs_bound}
+use Rattle.abc_value.proofs.tables.Collecting.{table_too_long, table_fault, pairs_bound}
 use Rattle.abc_value.proofs.sizes.sizes_of_entries.Goals as goal
 
 pub returns-then-len-gt-MOST_ELEMENTS-clause-sizes : goal.returns-then-len-gt-MOST_ELEMENTS-clause-sizes

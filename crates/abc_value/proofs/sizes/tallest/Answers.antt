@@ -1,5 +1,5 @@
 use Rattle.std.proofs.Common.{◌+◌, max, ap, ◌∙◌, arith}
-use Rattle.abc_value.proofs.Making.{regular_sizes, front_height, taller}
+use Rattle.abc_value.proofs.trees.Making.{regular_sizes, front_height, taller}
 use Rattle.abc_value.proofs.sizes.tallest.Goals as goal
 
 pub overflow_add-height : goal.overflow_add-height

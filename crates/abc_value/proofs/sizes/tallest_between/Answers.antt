@@ -1,5 +1,5 @@
 use Rattle.std.proofs.Common.{max, ap, ◌∙◌, arith}
-use Rattle.abc_value.proofs.Heights.{taller_between, none_between}
+use Rattle.abc_value.proofs.tables.Heights.{taller_between, none_between}
 use Rattle.abc_value.proofs.sizes.tallest_between.Goals as goal
 
 pub loop-i-init : goal.loop-i-init

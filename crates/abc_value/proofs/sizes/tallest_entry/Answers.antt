@@ -1,5 +1,5 @@
 use Rattle.std.proofs.Common.{◌+◌, max, ap, ◌∙◌, arith}
-use Rattle.abc_value.proofs.Keys.{taller_entry, front_pairs_height}
+use Rattle.abc_value.proofs.tables.Keys.{taller_entry, front_pairs_height}
 use Rattle.abc_value.proofs.sizes.tallest_entry.Goals as goal
 
 pub loop-i-preserved : goal.loop-i-preserved

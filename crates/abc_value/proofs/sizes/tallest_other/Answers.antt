@@ -3,8 +3,8 @@ use Rattle.std.specs.List.{between}
 use Rattle.abc_value.specs.Tree.{pairs}
 use Rattle.abc_value.specs.Sizes.{pairs_height}
 use Rattle.abc_value.specs.View.{as_pair}
-use Rattle.abc_value.proofs.Making.{regular_sizes}
-use Rattle.abc_value.proofs.Heights.{others_are}
+use Rattle.abc_value.proofs.trees.Making.{regular_sizes}
+use Rattle.abc_value.proofs.tables.Heights.{others_are}
 use Rattle.abc_value.proofs.sizes.tallest_other.Goals as goal
 
 pub overflow_add-here : goal.overflow_add-here

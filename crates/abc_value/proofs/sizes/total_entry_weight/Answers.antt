@@ -1,5 +1,5 @@
 use Rattle.std.proofs.Common.{◌+◌, ap, ◌∙◌, arith, refl}
-use Rattle.abc_value.proofs.Collecting.{no_pairs_regular, heavier_entry, regular_entry_more, entries_regular_at_end}
+use Rattle.abc_value.proofs.tables.Collecting.{no_pairs_regular, heavier_entry, regular_entry_more, entries_regular_at_end}
 use Rattle.abc_value.proofs.sizes.total_entry_weight.Goals as goal
 
 pub loop-i-init : goal.loop-i-init

@@ -1,5 +1,5 @@
 use Rattle.std.proofs.Common.{◌+◌, ap, ◌∙◌, arith, refl}
-use Rattle.abc_value.proofs.Making.{regular_sizes, heavier, one_regular_more, none_regular, regular_at_end}
+use Rattle.abc_value.proofs.trees.Making.{regular_sizes, heavier, one_regular_more, none_regular, regular_at_end}
 use Rattle.abc_value.proofs.sizes.total_weight.Goals as goal
 
 pub loop-i-init : goal.loop-i-init

@@ -1,6 +1,6 @@
 use Rattle.std.proofs.Common.{◌≡◌, ◌+◌, ◌∷◌, [], drop, sym, ap, ◌∙◌, arith}
 use Rattle.abc_value.specs.Items.{elements_of}
-use Rattle.abc_acts.proofs.Parts.{at_place, past_end}
+use Rattle.abc_state.proofs.Parts.{at_place, past_end}
 use Rattle.abc_acts.proofs.binding.Train.next.Goals as goal
 
 pub returns-in_default-clause-none : goal.returns-in_default-clause-none

@@ -2,7 +2,7 @@ use Rattle.std.proofs.Common.{◌-◌, ap, ◌∙◌}
 use Rattle.abc_meaning.specs.State.{State}
 use Rattle.abc_meaning.specs.Meaning.{meaning}
 use Rattle.abc_meaning.specs.Ran.{standing}
-use Rattle.abc_acts.specs.Views.{scope_of}
+use Rattle.abc_state.specs.Views.{scope_of}
 use Rattle.abc_pending.specs.Leads.{as_flow}
 use Rattle.abc_pending.specs.Steps.{state_with}
 use Rattle.abc_machine.proofs.Starting.{started, started_state, with_left}

@@ -1,7 +1,7 @@
 use Rattle.std.proofs.Common.{List, ℕ, rules, ◌≡◌, ◌<◌, ◌+◌, ◌-◌, ◌++◌, ◌∷◌, ◌∙◌, true, false, [], length, take, nat_lt, sym, ap, subst, refl}
 use Rattle.abc_outside.proofs.Leaves.{run_after}
 use Rattle.abc_num.specs.Lines.{raw_lines}
-use Rattle.abc_reader.specs.inner.LineReading.{shown, pending_of, used_of, Consumes, ConsumesOpen, TookPart, WantsLine, AsksLine}
+use Rattle.abc_reader.specs.inner.LineReading.{shown, pending_of, used_of, ConsumesOpen, TookPart, WantsLine, AsksLine}
 use Rattle.abc_reader.proofs.Started.{IsStarted, found, uses, if_found, went_on, read_on, wants, ends_empty, ends_line, last_found, none_left}
 use Rattle.abc_reader.specs.Asking.{Asked, next_ask}
 use Rattle.abc_reader.proofs.RawLines.{front_found, front_on, raw_front, raw_last}

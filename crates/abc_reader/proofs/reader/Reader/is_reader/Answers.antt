@@ -1,4 +1,4 @@
-use Rattle.std.proofs.Common.{◌≡◌, ◌≤◌, ◌-◌, ◌^◌, length, subst, arith, rules, IfSome}
+use Rattle.std.proofs.Common.{◌≤◌, ◌-◌, ◌^◌, length, subst, arith, rules, IfSome}
 use Rattle.abc_reader.specs.Reading.{IsRaw, IsReader}
 use Rattle.abc_reader.specs.inner.LineReading.{used_of}
 use Rattle.abc_reader.specs.inner.LineSteps.{some_line}

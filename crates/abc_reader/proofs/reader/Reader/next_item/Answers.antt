@@ -7,8 +7,8 @@ use Rattle.abc_layout.specs.SplitterView.{Holds, Feeds}
 use Rattle.abc_layout.specs.declared.splitter.Fed.TheVariants as fed
 use Rattle.abc_outside.specs.declared.lines.LineStop.TheVariants as stop
 use Rattle.abc_reader.specs.Asking.{Asked}
-use Rattle.abc_reader.specs.Reading.{AsksMore, ReadsOn, IsFit}
-use Rattle.abc_reader.specs.inner.LineSteps.{IsShort, TookLine, FedLines, IsFeeding}
+use Rattle.abc_reader.specs.Reading.{AsksMore, ReadsOn}
+use Rattle.abc_reader.specs.inner.LineSteps.{IsShort, TookLine, FedLines}
 use Rattle.abc_reader.proofs.Asks.{none_asked}
 use Rattle.abc_reader.proofs.Feeding.{none_fed, then_fed, end_fed, took_whole, took_end, ends_before, wants_more, asks_item, given_back, some_fed}
 use Rattle.abc_reader.proofs.Fit.{fit, end_fit, all_short}

@@ -1,4 +1,4 @@
-use Rattle.std.proofs.Common.{◌≡◌, ◌≤◌, length, false, refl, arith}
+use Rattle.std.proofs.Common.{length, false, refl, arith}
 use Rattle.std.proofs.lemmas.Bool.{false_from_ne_true}
 use Rattle.abc_reader.specs.Lending.{one_call}
 use Rattle.abc_reader.proofs.Inputs.{waits_at}

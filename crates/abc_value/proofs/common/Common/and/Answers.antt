@@ -1,7 +1,7 @@
 use Rattle.std.proofs.Common.{◌≡◌, ◌++◌, arith}
 use Rattle.std.specs.List.{between}
 use Rattle.abc_value.specs.inner.Keeps.{kept_form, column}
-use Rattle.abc_value.proofs.KeepingSteps.{start_between, turn_between, count_between, ended_between}
+use Rattle.abc_value.proofs.kept_forms.KeepingSteps.{start_between, turn_between, count_between, ended_between}
 use Rattle.abc_value.proofs.common.Common.and.Goals as goal
 
 pub loop-i-init : goal.loop-i-init

@@ -1,7 +1,7 @@
 use Rattle.std.proofs.Common.{Some, sym, ap, ◌∙◌, arith}
 use Rattle.abc_value.specs.inner.Keeps.{kept_form}
-use Rattle.abc_value.proofs.KeptShapes.{there}
-use Rattle.abc_value.proofs.KeepingSteps.{less_kept}
+use Rattle.abc_value.proofs.kept_forms.KeptShapes.{there}
+use Rattle.abc_value.proofs.kept_forms.KeepingSteps.{less_kept}
 use Rattle.abc_value.proofs.common.Common.less.Goals as goal
 
 pub returns : goal.returns

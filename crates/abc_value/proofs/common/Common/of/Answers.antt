@@ -1,5 +1,5 @@
 use Rattle.std.proofs.Common.{◌∙◌}
-use Rattle.abc_value.proofs.Keeping.{one_kept}
+use Rattle.abc_value.proofs.kept_forms.Keeping.{one_kept}
 use Rattle.abc_value.proofs.common.Common.of.Goals as goal
 
 pub returns : goal.returns

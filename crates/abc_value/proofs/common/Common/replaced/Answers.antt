@@ -1,7 +1,7 @@
 use Rattle.abc_value.specs.inner.Keeps.{kept_form, column}
 use Rattle.std.specs.List.{remove}
-use Rattle.abc_value.proofs.Keeping.{replaced_kept}
-use Rattle.abc_value.proofs.KeepingSteps.{if_ok, told, fewer_values, narrowed_kept}
+use Rattle.abc_value.proofs.kept_forms.Keeping.{replaced_kept}
+use Rattle.abc_value.proofs.kept_forms.KeepingSteps.{if_ok, told, fewer_values, narrowed_kept}
 use Rattle.abc_value.proofs.common.Common.replaced.Goals as goal
 
 pub returns-in-Some : goal.returns-in-Some

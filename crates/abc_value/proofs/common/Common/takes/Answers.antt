@@ -1,8 +1,8 @@
 use Rattle.std.proofs.Common.{Some, sym, ap, ◌∙◌}
 use Rattle.abc_value.specs.Forms.{form_of}
 use Rattle.abc_value.specs.inner.Keeps.{kept_form}
-use Rattle.abc_value.proofs.KeptShapes.{there}
-use Rattle.abc_value.proofs.KeepingSteps.{within}
+use Rattle.abc_value.proofs.kept_forms.KeptShapes.{there}
+use Rattle.abc_value.proofs.kept_forms.KeepingSteps.{within}
 use Rattle.abc_value.proofs.common.Common.takes.Goals as goal
 
 pub returns-in-Some-3 : goal.returns-in-Some-3

@@ -1,9 +1,9 @@
 use Rattle.std.proofs.Common.{◌≡◌, ◌∷◌, None, Some, refl, sym, ap, ◌∙◌, arith}
 use Rattle.abc_value.specs.Forms.{joined, form_of}
 use Rattle.abc_value.specs.inner.Keeps.{kept_form}
-use Rattle.abc_value.proofs.Keeping.{more_kept}
-use Rattle.abc_value.proofs.KeptShapes.{there, absent}
-use Rattle.abc_value.proofs.KeepingSteps.{some_values, none_more, joined_none, none_joined, counted_more}
+use Rattle.abc_value.proofs.kept_forms.Keeping.{more_kept}
+use Rattle.abc_value.proofs.kept_forms.KeptShapes.{there, absent}
+use Rattle.abc_value.proofs.kept_forms.KeepingSteps.{some_values, none_more, joined_none, none_joined, counted_more}
 use Rattle.abc_value.proofs.common.Common.with.Goals as goal
 
 pub returns-in_default : goal.returns-in_default

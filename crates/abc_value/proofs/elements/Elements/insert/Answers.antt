@@ -1,6 +1,6 @@
 use Rattle.std.proofs.Common.{sym}
 use Rattle.abc_value.specs.inner.Keeps.{kept_form}
-use Rattle.abc_value.proofs.KeepingSteps.{inserted_into}
+use Rattle.abc_value.proofs.kept_forms.KeepingSteps.{inserted_into}
 use Rattle.abc_value.proofs.elements.Elements.insert.Goals as goal
 
 pub invariant_of-self-2 : goal.invariant_of-self-2

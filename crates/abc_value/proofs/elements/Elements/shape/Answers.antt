@@ -4,7 +4,7 @@ use Rattle.std.specs.Option.{option_map}
 use Rattle.abc_value.specs.Tree.{list, trees}
 use Rattle.abc_value.specs.Forms.{Form, a_list, form_of}
 use Rattle.abc_value.specs.inner.Keeps.{kept_form}
-use Rattle.abc_value.proofs.KeptShapes.{list_kept}
+use Rattle.abc_value.proofs.kept_forms.KeptShapes.{list_kept}
 use Rattle.abc_value.proofs.elements.Elements.shape.Goals as goal
 
 pub returns : goal.returns

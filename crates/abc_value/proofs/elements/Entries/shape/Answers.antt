@@ -4,7 +4,7 @@ use Rattle.abc_value.specs.Forms.{Form, a_table, both, form_of}
 use Rattle.abc_value.specs.View.{as_pair}
 use Rattle.abc_value.specs.declared.table_shapes.TableShapes.{TableShapes}
 use Rattle.abc_value.specs.inner.Keeps.{KeepsBoth, kept_form}
-use Rattle.abc_value.proofs.KeptShapes.{table_kept}
+use Rattle.abc_value.proofs.kept_forms.KeptShapes.{table_kept}
 use Rattle.abc_value.proofs.elements.Entries.shape.Goals as goal
 
 pub returns : goal.returns

@@ -1,7 +1,7 @@
 use Rattle.std.proofs.Common.{sym, ap, ◌∙◌, slice_get}
 use Rattle.abc_value.specs.ShapeParts.{shape_parts}
 use Rattle.abc_value.specs.ShapeView.{node_form}
-use Rattle.abc_value.proofs.ShapeLooks.{listed_forms_forms}
+use Rattle.abc_value.proofs.forms.ShapeLooks.{listed_forms_forms}
 use Rattle.abc_value.proofs.shape.Shape.part.Goals as goal
 
 pub returns-in-Compound : goal.returns-in-Compound

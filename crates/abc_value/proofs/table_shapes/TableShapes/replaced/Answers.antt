@@ -3,7 +3,7 @@ use Rattle.std.specs.List.{slice_set}
 use Rattle.abc_value.specs.declared.value.Entry.{Entry}
 use Rattle.abc_value.specs.declared.table_shapes.TableShapes.{TableShapes}
 use Rattle.abc_value.specs.inner.Keeps.{KeepsBoth, kept_form}
-use Rattle.abc_value.proofs.KeepingSteps.{column_replaced}
+use Rattle.abc_value.proofs.kept_forms.KeepingSteps.{column_replaced}
 use Rattle.abc_value.proofs.table_shapes.TableShapes.replaced.Goals as goal
 
 pub returns : goal.returns

@@ -4,7 +4,7 @@ use Rattle.std.proofs.lemmas.List.{length-map}
 use Rattle.abc_value.specs.declared.value.Entry.{Entry}
 use Rattle.abc_value.specs.declared.table_shapes.TableShapes.{TableShapes}
 use Rattle.abc_value.specs.inner.Keeps.{KeepsBoth, kept_form}
-use Rattle.abc_value.proofs.KeepingSteps.{column_inserted}
+use Rattle.abc_value.proofs.kept_forms.KeepingSteps.{column_inserted}
 use Rattle.abc_value.proofs.table_shapes.TableShapes.with.Goals as goal
 
 pub returns : goal.returns

@@ -2,7 +2,7 @@ use Rattle.std.proofs.Common.{◌≤◌, length, sym, ap, ◌∙◌, arith}
 use Rattle.std.proofs.lemmas.Result.{err_from_is_err_and}
 use Rattle.abc_value.specs.Tree.{compound, trees}
 use Rattle.abc_value.specs.Sizes.{size_fault}
-use Rattle.abc_value.proofs.Making.{compound_fault, compound_invariant}
+use Rattle.abc_value.proofs.trees.Making.{compound_fault, compound_invariant}
 use Rattle.abc_value.proofs.value.Value.compound.Goals as goal
 
 pub returns-in_err-height-clause-sizes : goal.returns-in_err-height-clause-sizes

@@ -5,10 +5,10 @@ use Rattle.abc_value.specs.Sizes.{height_of, weight_of, sizes_fault}
 use Rattle.abc_value.specs.Regular.{IsRegular}
 use Rattle.abc_value.specs.Changes.{add}
 use Rattle.abc_value.specs.View.{node_tree}
-use Rattle.abc_value.proofs.Making.{regular_sizes}
-use Rattle.abc_value.proofs.Placing.{add_placed}
-use Rattle.abc_value.proofs.Adding.{added_fault, added_is, added_invariant, list_parts}
-use Rattle.abc_value.proofs.Short.{list_short}
+use Rattle.abc_value.proofs.trees.Making.{regular_sizes}
+use Rattle.abc_value.proofs.lists.Placing.{add_placed}
+use Rattle.abc_value.proofs.lists.Adding.{added_fault, added_is, added_invariant, list_parts}
+use Rattle.abc_value.proofs.trees.Short.{list_short}
 use Rattle.abc_value.proofs.value.Value.insert.Goals as goal
 
 pub overflow_add-below : goal.overflow_add-below

@@ -7,9 +7,9 @@ use Rattle.abc_value.specs.Regular.{IsCharacter}
 use Rattle.abc_value.specs.Items.{elements_of, item_of}
 use Rattle.abc_num.specs.Number.{whole_of}
 use Rattle.abc_value.specs.View.{node_tree}
-use Rattle.abc_value.proofs.Rows.{listed_trees}
-use Rattle.abc_value.proofs.Making.{text_small}
-use Rattle.abc_value.proofs.Itemised.{found_in, fault_in, copy_answer, small_answer, element_is, characters_at, text_characters, character_at, associate_at, associates_count}
+use Rattle.abc_value.proofs.trees.Rows.{listed_trees}
+use Rattle.abc_value.proofs.trees.Making.{text_small}
+use Rattle.abc_value.proofs.trees.Itemised.{found_in, fault_in, copy_answer, small_answer, element_is, characters_at, text_characters, character_at, associate_at, associates_count}
 use Rattle.abc_value.proofs.value.Value.item.Goals as goal
 
 pub returns-in_err-place : goal.returns-in_err-place

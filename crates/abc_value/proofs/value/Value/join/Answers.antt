@@ -9,11 +9,11 @@ use Rattle.abc_value.specs.Regular.{IsRegular}
 use Rattle.abc_value.specs.Changes.{with_pair, IsPlaceOf}
 use Rattle.abc_value.specs.declared.value.Entry.{Entry}
 use Rattle.abc_value.specs.View.{node_tree, as_pair}
-use Rattle.abc_value.proofs.Making.{regular_sizes}
-use Rattle.abc_value.proofs.Keys.{firsts, pairs_are, keys_of_are, map_insert}
-use Rattle.abc_value.proofs.Tables.{join_fault, join_invariant}
-use Rattle.abc_value.proofs.Pairing.{insert_placed}
-use Rattle.abc_value.proofs.Short.{table_short}
+use Rattle.abc_value.proofs.trees.Making.{regular_sizes}
+use Rattle.abc_value.proofs.tables.Keys.{firsts, pairs_are, keys_of_are, map_insert}
+use Rattle.abc_value.proofs.tables.Tables.{join_fault, join_invariant}
+use Rattle.abc_value.proofs.tables.Pairing.{insert_placed}
+use Rattle.abc_value.proofs.trees.Short.{table_short}
 use Rattle.abc_value.proofs.value.Value.join.Goals as goal
 
 pub overflow_add-high : goal.overflow_add-high

@@ -2,7 +2,7 @@ use Rattle.std.proofs.Common.{map, sym, ap, ◌∙◌, arith}
 use Rattle.std.proofs.lemmas.List.{length-map}
 use Rattle.abc_value.specs.Sizes.{length_of}
 use Rattle.abc_value.specs.View.{node_tree, as_pair}
-use Rattle.abc_value.proofs.Rows.{count_trees, count_pairs_pairs}
+use Rattle.abc_value.proofs.trees.Rows.{count_trees, count_pairs_pairs}
 use Rattle.abc_value.proofs.value.Value.len.Goals as goal
 
 pub returns-in-Compound-clause-length : goal.returns-in-Compound-clause-length

@@ -4,7 +4,7 @@ use Rattle.abc_value.specs.Tree.{Tree, list, trees}
 use Rattle.abc_value.specs.Sizes.{IsMakingOf}
 use Rattle.abc_value.specs.Regular.{IsOrdered}
 use Rattle.abc_value.specs.Changes.{in_order}
-use Rattle.abc_value.proofs.Merging.{in_order_ordered}
+use Rattle.abc_value.proofs.lists.Merging.{in_order_ordered}
 use Rattle.abc_value.proofs.value.Value.list.Goals as goal
 
 pub ordered_list-requires : goal.ordered_list-requires

@@ -3,7 +3,7 @@ use Rattle.std.specs.Option.{option_map}
 use Rattle.abc_value.specs.declared.value.Entry.{Entry}
 use Rattle.abc_value.specs.Parts.{parts_of}
 use Rattle.abc_value.specs.View.{node_tree}
-use Rattle.abc_value.proofs.Rows.{listed_trees, nth_of_associates}
+use Rattle.abc_value.proofs.trees.Rows.{listed_trees, nth_of_associates}
 use Rattle.abc_value.proofs.value.Value.part.Goals as goal
 
 pub returns-in-Table : goal.returns-in-Table

@@ -1,8 +1,8 @@
 use Rattle.std.proofs.Common.{sym, ap, subst, ◌∙◌}
 use Rattle.abc_value.specs.Regular.{AreCharacters}
 use Rattle.abc_value.specs.View.{node_tree}
-use Rattle.abc_value.proofs.Itemised.{text_characters}
-use Rattle.abc_value.proofs.Ranges.{whole_fits, passed}
+use Rattle.abc_value.proofs.trees.Itemised.{text_characters}
+use Rattle.abc_value.proofs.lists.Ranges.{whole_fits, passed}
 use Rattle.abc_value.proofs.value.Value.range.Goals as goal
 
 pub range_of_numbers-requires-clause-first : goal.range_of_numbers-requires-clause-first

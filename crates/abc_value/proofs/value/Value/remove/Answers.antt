@@ -7,9 +7,9 @@ use Rattle.abc_value.specs.Regular.{IsRegular}
 use Rattle.abc_value.specs.Parts.{parts_of}
 use Rattle.abc_value.specs.Changes.{without}
 use Rattle.abc_value.specs.View.{node_tree}
-use Rattle.abc_value.proofs.Rows.{listed_trees}
-use Rattle.abc_value.proofs.Adding.{list_parts}
-use Rattle.abc_value.proofs.Removing.{remove_takes, remove_placed, nowhere, taken_invariant}
+use Rattle.abc_value.proofs.trees.Rows.{listed_trees}
+use Rattle.abc_value.proofs.lists.Adding.{list_parts}
+use Rattle.abc_value.proofs.lists.Removing.{remove_takes, remove_placed, nowhere, taken_invariant}
 use Rattle.abc_value.proofs.value.Value.remove.Goals as goal
 
 pub place_of-place-requires-clause-ordered : goal.place_of-place-requires-clause-ordered

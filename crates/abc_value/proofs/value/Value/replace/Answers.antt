@@ -7,10 +7,10 @@ use Rattle.abc_value.specs.Regular.{IsRegular}
 use Rattle.abc_value.specs.Changes.{with_pair}
 use Rattle.abc_value.specs.declared.value.Entry.{Entry}
 use Rattle.abc_value.specs.View.{node_tree, as_pair}
-use Rattle.abc_value.proofs.Heights.{set_height}
-use Rattle.abc_value.proofs.Making.{regular_sizes}
-use Rattle.abc_value.proofs.Keys.{keys_of_are}
-use Rattle.abc_value.proofs.Tables.{replacing}
+use Rattle.abc_value.proofs.tables.Heights.{set_height}
+use Rattle.abc_value.proofs.trees.Making.{regular_sizes}
+use Rattle.abc_value.proofs.tables.Keys.{keys_of_are}
+use Rattle.abc_value.proofs.tables.Tables.{replacing}
 use Rattle.abc_value.proofs.value.Value.replace.Goals as goal
 
 pub overflow_add-high : goal.overflow_add-high

@@ -4,7 +4,7 @@ use Rattle.abc_value.specs.Tree.{table_of, pairs}
 use Rattle.abc_value.specs.Sizes.{IsMakingOf}
 use Rattle.abc_value.specs.Regular.{IsRising, AllRegularPairs}
 use Rattle.abc_value.specs.Changes.{placed}
-use Rattle.abc_value.proofs.MergingPairs.{placed_pairs}
+use Rattle.abc_value.proofs.tables.MergingPairs.{placed_pairs}
 use Rattle.abc_value.proofs.value.Value.table.Goals as goal
 
 pub rising_table-requires-clause-rising : goal.rising_table-requires-clause-rising

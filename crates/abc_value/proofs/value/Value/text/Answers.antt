@@ -1,5 +1,5 @@
 use Rattle.std.proofs.Common.{ap, ◌∙◌, arith}
-use Rattle.abc_value.proofs.Making.{text_too_long, text_small, text_invariant}
+use Rattle.abc_value.proofs.trees.Making.{text_too_long, text_small, text_invariant}
 use Rattle.abc_value.proofs.value.Value.text.Goals as goal
 
 pub returns-then-b-gt-MOST_ELEMENTS-clause-sizes : goal.returns-then-b-gt-MOST_ELEMENTS-clause-sizes

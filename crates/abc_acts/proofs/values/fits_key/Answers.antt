@@ -1,5 +1,0 @@
-use Rattle.abc_acts.proofs.Taking.{table_fits}
-use Rattle.abc_acts.proofs.values.fits_key.Goals as goal
-
-pub returns-clause-table : goal.returns-clause-table
-returns-clause-table c = table_fits c.args.table.now c.args.key.now c.have_table.result c.have_table.ensures

@@ -1,0 +1,6 @@
+-- Lemmas on steps of commands.
+pub mod Levels
+pub mod Acting
+pub mod Fronts
+pub mod Reading
+pub mod Asking

@@ -1,0 +1,2 @@
+-- Lemmas on steps within expressions.
+pub mod AtOnce

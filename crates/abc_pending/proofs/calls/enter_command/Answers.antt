@@ -1,9 +1,0 @@
-use Rattle.abc_acts.specs.Views.{scope_of}
-use Rattle.abc_pending.proofs.CallLemmas.{unit_within, unit_falls}
-use Rattle.abc_pending.proofs.calls.enter_command.Goals as goal
-
-pub returns-in-Some-clause-within : goal.returns-in-Some-clause-within
-returns-in-Some-clause-within c = unit_within c.args.units.now c.args.template.now c.in-Some.unit.now (scope_of c.enter_command_unit.new.scope) c.enter_command_unit.result c.in-Some.ensures.unit c.enter_command_unit.ensures.within
-
-pub returns-in-Some-clause-falls : goal.returns-in-Some-clause-falls
-returns-in-Some-clause-falls c = unit_falls c.args.units.now c.args.template.now c.in-Some.unit.now c.enter_command_unit.new.run.left c.args.run.now.left c.enter_command_unit.result c.in-Some.ensures.unit c.enter_command_unit.ensures.falls

@@ -1,0 +1,2 @@
+-- Steps of the code, in words that no public clause uses.
+pub mod Examples

@@ -1,0 +1,6 @@
+//! The steps of the machine: how each piece of pending work begins, and how what waits goes on with a reply.
+#![tactic(auto)]
+
+mod dispatch;
+
+pub use dispatch::{begin, begin_item, take_up};

@@ -1,0 +1,4 @@
+-- Lemmas on steps within tests.
+pub mod Levels
+pub mod AtOnce
+pub mod Chains

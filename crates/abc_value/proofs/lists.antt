@@ -1,0 +1,6 @@
+-- Lists in order: an element more or fewer, ranges, and lists that are made at once.
+pub mod Adding
+pub mod Placing
+pub mod Removing
+pub mod Ranges
+pub mod Merging
