@@ -12,7 +12,6 @@ use Rattle.abc_meaning.specs.Here.{Here, Scope}
 use Rattle.abc_meaning.specs.Deeper.{Deeper}
 use Rattle.abc_meaning.specs.Value.{value_with}
 use Rattle.abc_meaning.specs.Actuals.{actual_with, located}
-use Rattle.abc_meaning.specs.Addresses.{address}
 use Rattle.abc_meaning.specs.Meaning.{meaning}
 use Rattle.abc_state.specs.Views.{at}
 use Rattle.abc_pending.specs.declared.place.Place.{Place}

@@ -22,8 +22,8 @@ use Rattle.abc_ground.proofs.Listing.{CommandListed, commands_listed}
 use Rattle.abc_demand.specs.declared.env.Signature.{Signature as SignatureVars}
 use Rattle.abc_demand.specs.Typings.{signatures_of, var_of, Agree}
 use Rattle.abc_demand.specs.Demanded.{IsDemanded, IsRefused, AreGiven}
-use Rattle.abc_principal.specs.Exact.{Known, AreProper}
-use Rattle.abc_principal.specs.inner.Grouped.{AllProper, MayCall, AreCalls, NoCalls}
+use Rattle.abc_principal.specs.Exact.{Known, AreProper, AllProper}
+use Rattle.abc_principal.specs.Calls.{MayCall, AreCalls, NoCalls}
 use Rattle.abc_check.specs.Standing.{AreSpelled, KnowsUnits, AreAsked}
 use Rattle.abc_principal.proofs.Finding.{agree_fewer}
 use Rattle.abc_check.specs.inner.Asked.{CommandAt}

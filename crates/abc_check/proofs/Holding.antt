@@ -19,9 +19,9 @@ use Rattle.abc_value.proofs.forms.Shaping.{has_form, form_has}
 use Rattle.abc_ground.specs.Groups.{Cut}
 use Rattle.abc_ground.specs.Typable.{Values, AreTypes}
 use Rattle.abc_demand.specs.Typings.{Agree}
-use Rattle.abc_scheme.specs.inner.Copies.{IsLater}
+use Rattle.abc_scheme.specs.Later.{IsLater}
 use Rattle.abc_scheme.proofs.Later.{later_demands}
-use Rattle.abc_principal.specs.inner.Naming.{AreNamed}
+use Rattle.abc_principal.specs.TargetVars.{AreNamed}
 use Rattle.abc_principal.proofs.Finding.{agree_kept, agree_fewer}
 use Rattle.abc_check.specs.Standing.{AreAsked}
 use Rattle.abc_check.specs.inner.Shaped.{IsShapeVar, NoShapeVar, IsHeld, NotHeld}

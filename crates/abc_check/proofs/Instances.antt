@@ -20,8 +20,7 @@ use Rattle.abc_demand.specs.Typings.{types_of, type_of, signature_of, Agree}
 use Rattle.abc_principal.specs.declared.principal.Principal.{Principal}
 use Rattle.abc_principal.specs.Principals.{IsInstance, HasNone}
 use Rattle.abc_principal.specs.declared.member.Member.{Member}
-use Rattle.abc_principal.specs.Exact.{Known, known_of, cut_in, cuts_of, AreProper, IsPrincipal}
-use Rattle.abc_principal.specs.inner.Grouped.{AllProper}
+use Rattle.abc_principal.specs.Exact.{Known, known_of, cut_in, cuts_of, AreProper, IsPrincipal, AllProper}
 use Rattle.abc_check.specs.Standing.{KnowsUnits}
 use Rattle.abc_fewer.proofs.Cuts.{found_own}
 use Rattle.abc_check.proofs.Taking.{next_taken}

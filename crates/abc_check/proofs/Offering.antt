@@ -11,7 +11,7 @@ use Rattle.abc_ground.specs.Groups.{Cut, cut_of, template_of, AreTogether}
 use Rattle.abc_ground.specs.Typable.{IsProperSignature, MayWithin, May, IsOffered}
 use Rattle.abc_principal.specs.declared.principal.Principal.{Principal}
 use Rattle.abc_principal.specs.Exact.{Known, known_of, AreProper, IsPrincipal}
-use Rattle.abc_principal.specs.inner.Grouped.{IsKnownCall, MayCall}
+use Rattle.abc_principal.specs.Calls.{IsKnownCall, MayCall}
 use Rattle.abc_check.proofs.Somes.{not_some, is_there}
 use Rattle.abc_check.specs.Standing.{IsSpelled, AreSpelled, KnowsUnits}
 

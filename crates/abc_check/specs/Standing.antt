@@ -11,11 +11,9 @@ use Rattle.abc_tree.specs.Templates.{template_text}
 use Rattle.abc_tree.specs.declared.templates.Template.{Template}
 use Rattle.abc_ground.specs.Groups.{Cut, cut_of, template_of}
 use Rattle.abc_ground.specs.Typable.{Values, AreTypes, IsTypable}
-use Rattle.abc_demand.specs.Typings.{Agree}
-use Rattle.abc_demand.specs.inner.Named.{TargetsMade}
+use Rattle.abc_demand.specs.Typings.{Agree, TargetsMade}
 use Rattle.abc_principal.specs.declared.principal.Principal.{Principal}
-use Rattle.abc_principal.specs.Exact.{Known, known_of, AreProper, IsPrincipal}
-use Rattle.abc_principal.specs.inner.Grouped.{AllProper}
+use Rattle.abc_principal.specs.Exact.{Known, known_of, AreProper, IsPrincipal, AllProper}
 use Rattle.abc_check.specs.declared.types.UnitTypes.{UnitTypes}
 use Rattle.abc_check.specs.declared.checker.Checker.{Checker}
 use Rattle.abc_check.specs.declared.checker.Checker.TheVariants.{Typable, Untypable}

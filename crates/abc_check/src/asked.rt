@@ -3,7 +3,7 @@ ghost use Rattle.std.specs.Prelude.{◌≡◌, [], ◌∷◌, ◌++◌, ℕ, Lis
 ghost use Rattle.abc_num.specs.declared.types.Ground.{Ground};
 ghost use Rattle.abc_tree.specs.Ordered.{RiseBy};
 ghost use Rattle.abc_ground.specs.Groups.{Cut, cut_of, template_of};
-ghost use Rattle.abc_demand.specs.inner.Named.{TargetsMade};
+ghost use Rattle.abc_demand.specs.Typings.{TargetsMade};
 ghost use Rattle.abc_principal.specs.Exact.{AreProper, cut_in, cuts_of};
 ghost use Rattle.abc_check.specs.Standing.{KnowsUnits};
 ghost use Rattle.abc_check.specs.inner.Asked.{HaveSome, SomeAsked};

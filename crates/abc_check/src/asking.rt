@@ -6,10 +6,9 @@ ghost use Rattle.abc_tree.specs.Calls.{command_nodes as nodes_of};
 ghost use Rattle.abc_unify.specs.Graphs.{HasSolution};
 ghost use Rattle.abc_ground.specs.Groups.{Cut};
 ghost use Rattle.abc_ground.specs.Typable.{Values, IsTypableWith};
-ghost use Rattle.abc_scheme.specs.inner.Copies.{IsLater};
-ghost use Rattle.abc_demand.specs.Typings.{CallMade};
+ghost use Rattle.abc_scheme.specs.Later.{IsLater};
+ghost use Rattle.abc_demand.specs.Typings.{CallMade, TargetsMade};
 ghost use Rattle.abc_demand.specs.Demanded.{IsDemanded, IsRefused, AreGiven};
-ghost use Rattle.abc_demand.specs.inner.Named.{TargetsMade};
 ghost use Rattle.abc_check.specs.Standing.{AreSpelled, KnowsUnits, AreAsked};
 ghost use Rattle.abc_check.specs.inner.Asked.{CommandAt};
 

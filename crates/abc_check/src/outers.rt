@@ -3,7 +3,7 @@ ghost use Rattle.std.specs.Prelude.{◌≡◌, [], Err, IfOk};
 ghost use Rattle.abc_terms.specs.Nodes.{IsNode};
 ghost use Rattle.abc_unify.specs.Graphs.{with_variable, with_node};
 ghost use Rattle.abc_demand.specs.Typings.{AreMade};
-ghost use Rattle.abc_scheme.specs.inner.Copies.{IsLater};
+ghost use Rattle.abc_scheme.specs.Later.{IsLater};
 ghost use Rattle.abc_value.specs.declared.shape.ShapeKind.TheVariants as kind;
 ghost use Rattle.abc_check.specs.inner.Shaped.{IsOuterVar, NoOuterVar};
 

@@ -1,6 +1,6 @@
 //! Variables for the types of a shape.
 ghost use Rattle.std.specs.Prelude.{◌≡◌, Err, IfOk};
-ghost use Rattle.abc_scheme.specs.inner.Copies.{IsLater};
+ghost use Rattle.abc_scheme.specs.Later.{IsLater};
 ghost use Rattle.abc_value.specs.ShapeParts.{shape_parts};
 ghost use Rattle.abc_check.specs.inner.Shaped.{IsShapeVar, NoShapeVar, AreShapeVars, NoShapeVars};
 

@@ -5,7 +5,7 @@ ghost use Rattle.abc_terms.specs.declared.term.VarId.{VarId as TheVar};
 ghost use Rattle.abc_tree.specs.Ordered.{RiseBy};
 ghost use Rattle.abc_ground.specs.Groups.{Cut, template_of};
 ghost use Rattle.abc_ground.specs.Typable.{Values, IsTypable, IsTypableWith, IsTypeLine};
-ghost use Rattle.abc_scheme.specs.inner.Copies.{IsLater};
+ghost use Rattle.abc_scheme.specs.Later.{IsLater};
 ghost use Rattle.abc_principal.specs.Exact.{cuts_of};
 ghost use Rattle.abc_check.specs.Cuts.{CutsAreSpelled};
 ghost use Rattle.abc_check.specs.Standing.{CallsAreSpelled, KnowsTypes, AreMade};

@@ -7,8 +7,8 @@ ghost use Rattle.abc_value.specs.Tree.{Tree};
 ghost use Rattle.abc_frames.specs.Maps.{value_of};
 ghost use Rattle.abc_ground.specs.Groups.{Cut};
 ghost use Rattle.abc_ground.specs.Typable.{Values, AreTypes, IsTypable};
-ghost use Rattle.abc_scheme.specs.inner.Copies.{IsLater};
-ghost use Rattle.abc_demand.specs.inner.Named.{TargetsMade};
+ghost use Rattle.abc_scheme.specs.Later.{IsLater};
+ghost use Rattle.abc_demand.specs.Typings.{TargetsMade};
 ghost use Rattle.abc_check.specs.Standing.{AreAsked};
 ghost use Rattle.abc_check.specs.inner.Shaped.{IsHeld, NotHeld};
 

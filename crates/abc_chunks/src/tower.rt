@@ -12,7 +12,7 @@ use std::rc::Rc;
 pub(crate) const MOST_IN_CHUNK: usize = 64;
 
 /// By how many elements the room of a chunk grows. Room that doubles would stand half empty in chunks that were cut in halves.
-const GROWTH: usize = 8;
+const GROWTH: usize = 4;
 
 /// Chunks, each with one element at least, and how many elements stand in front of each; last how many there are.
 #[derive(Drop)]

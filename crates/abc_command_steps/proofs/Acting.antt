@@ -13,7 +13,6 @@ use Rattle.abc_meaning.specs.Addresses.{address, address_within, whole}
 use Rattle.abc_meaning.specs.Changing.{parts, delete}
 use Rattle.abc_meaning.specs.Acts.{acts_with, newlines, say, checked}
 use Rattle.abc_meaning.specs.Meaning.{meaning}
-use Rattle.abc_meaning.specs.Value.{there}
 use Rattle.abc_meaning.specs.Deeper.{Actual}
 use Rattle.abc_state.specs.Views.{at}
 use Rattle.abc_state.specs.Words.{outer_text}

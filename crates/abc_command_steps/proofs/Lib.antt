@@ -4,3 +4,4 @@ pub mod Acting
 pub mod Fronts
 pub mod Reading
 pub mod Asking
+pub mod Alone

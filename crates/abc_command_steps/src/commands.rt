@@ -3,18 +3,18 @@
 ghost use Rattle.std.specs.Prelude.{◌≡◌, ◌∷◌, ◌<◌, ◌≤◌, ◌+◌, ℕ, Bool, List, IfOk};
 ghost use Rattle.abc_num.specs.declared.lines.RawLine.{RawLine};
 ghost use Rattle.abc_tree.specs.declared.commands.Unit.{Unit as Routine};
-ghost use Rattle.abc_frames.specs.Maps.{Targets as Store};
-ghost use Rattle.abc_meaning.specs.State.{State, Got, Flow};
+ghost use Rattle.abc_meaning.specs.State.{State, Got, Flow, after};
+ghost use Rattle.abc_meaning.specs.Addresses.{address as address_by};
 ghost use Rattle.abc_meaning.specs.Here.{Scope as Names};
 ghost use Rattle.abc_meaning.specs.Calls.{then_on};
 ghost use Rattle.abc_meaning.specs.Meaning.{meaning};
 ghost use Rattle.std.specs.Option.{option_map};
 ghost use Rattle.abc_state.specs.Agrees.{Agrees};
 ghost use Rattle.abc_state.specs.Views.{at as standing_at, address_of, flow_of, scope_of, state_of};
-ghost use Rattle.abc_pending.specs.Leads.{as_flow, change_by, doing, now, resume_action, resume_address, resume_flow};
+ghost use Rattle.abc_pending.specs.Leads.{as_flow, change_by, doing, done, now, resume_action, resume_address, resume_flow};
 ghost use Rattle.abc_pending.specs.Pending.{turn, turns_over, while_body};
 ghost use Rattle.abc_pending.specs.Views.{Begins, action_frame, begin_of, below_next, job_of, next_weight, spot_frame};
-ghost use Rattle.abc_pending.specs.Weights.{Falls, action_weight, address_weight, job_weight, suite_size, test_size};
+ghost use Rattle.abc_pending.specs.Weights.{Falls, action_weight, address_weight, expr_size, job_weight, suite_size, test_size};
 
 use crate::performing::change_to;
 use abc_acts::{Train, bind, delete, insert, put, remove};
@@ -22,8 +22,10 @@ use abc_frames::Targets;
 use abc_pending::{
     Changes, ForAction, ForFlow, ForSpot, ForTruth, Job, Next, Place, Reply, Waiting, Work,
 };
-use abc_state::{Exit, Halt, Run, Scope, Spot, located, selected, stepped, whole};
-use abc_tree::{Bound, Suite, Test};
+use abc_state::{
+    Exit, Halt, Run, Scope, Spot, located, place as place_of, selected, stepped, whole,
+};
+use abc_tree::{Bound, Expr, Suite, Test};
 use abc_value::{RunFault, Value};
 use std::alloc::Global;
 
@@ -162,6 +164,52 @@ fn change(
     }
 }
 
+/// A command that does this at an address ends with it.
+fn change_there<'a>(
+    alloc: Global,
+    scope: &Scope<'a>,
+    place: Place,
+    what: Changes,
+    value: Value,
+    spot: &Spot,
+    run: &mut Run,
+    targets: &mut Targets,
+) -> Result<Next<'a>, Halt>
+    ensures leads { (units : List Routine) (lines : List RawLine) (ended : Bool) → Begins units (scope_of scope.now) place.line result (state_of run.new targets.new lines ended) (done (change_by (standing_at (scope_of scope.now) place.line) what value (address_of spot.now) (state_of run.old targets.old lines ended))) }
+    ensures scope { IfOk result (λ next. below_next (scope_of scope.now) next ≡ scope_of scope.now) }
+    ensures left { run.new.left ≡ run.old.left }
+    ensures falls { IfOk result (λ next. next_weight next < 1) }
+{
+    change(alloc, scope, run, targets, what, value, spot)?;
+    Ok(Next::Give(Reply::Went(Exit::GoesOn)))
+}
+
+/// The same at the address that an expression is: at once where it is a name.
+#[tactic(auto, using(crate::proofs::Alone::name_goes))]
+fn change_at<'a>(
+    alloc: Global,
+    scope: &Scope<'a>,
+    place: Place,
+    what: Changes,
+    value: Value,
+    address: &'a Expr,
+    run: &mut Run,
+    targets: &mut Targets,
+) -> Result<Next<'a>, Halt>
+    ensures leads { (units : List Routine) (lines : List RawLine) (ended : Bool) → Begins units (scope_of scope.now) place.line result (state_of run.new targets.new lines ended) (done (after (address_by (meaning units place.levels) (standing_at (scope_of scope.now) place.line) address.now (state_of run.old targets.old lines ended)) (change_by (standing_at (scope_of scope.now) place.line) what value))) }
+    ensures scope { IfOk result (λ next. below_next (scope_of scope.now) next ≡ scope_of scope.now) }
+    ensures left { run.new.left ≡ run.old.left }
+    ensures falls { IfOk result (λ next. next_weight next < 3 + expr_size address.now) }
+{
+    match address {
+        Expr::Name(i) => {
+            let spot = place_of(alloc, i.0);
+            change_there(alloc, scope, place, what, value, &spot, run, targets)
+        }
+        _ => Ok(change_to(place, what, value, address)),
+    }
+}
+
 /// How an address or a command goes on with the address for which it waited.
 pub fn take_spot<'a>(
     alloc: Global,
@@ -188,8 +236,7 @@ pub fn take_spot<'a>(
         }
         ForSpot::ChangePlace(what, value) => {
             let spot = whole(spot)?;
-            change(alloc, scope, run, targets, what, value, &spot)?;
-            Ok(Next::Give(Reply::Went(Exit::GoesOn)))
+            change_there(alloc, scope, place, what, value, &spot, run, targets)
         }
         ForSpot::DeletePlace => {
             let spot = whole(spot)?;
@@ -202,13 +249,15 @@ pub fn take_spot<'a>(
 /// How an actual, an address or a command goes on with the value for which it waited.
 pub fn take_action<'a>(
     alloc: Global,
+    scope: &Scope<'a>,
     place: Place,
     frame: ForAction<'a>,
     value: Value,
     run: &mut Run,
+    targets: &mut Targets,
 ) -> Result<Next<'a>, Halt>
-    ensures leads { (units : List Routine) (scope : Names) (targets : Store) (lines : List RawLine) (ended : Bool) → Begins units scope place.line result (state_of run.new targets lines ended) (resume_action units (meaning units place.levels) (standing_at scope place.line) (action_frame frame.entry) (value) (state_of run.old targets lines ended)) }
-    ensures scope { (scope : Names) → IfOk result (λ next. below_next scope next ≡ scope) }
+    ensures leads { (units : List Routine) (lines : List RawLine) (ended : Bool) → Begins units (scope_of scope.now) place.line result (state_of run.new targets.new lines ended) (resume_action units (meaning units place.levels) (standing_at (scope_of scope.now) place.line) (action_frame frame.entry) (value) (state_of run.old targets.old lines ended)) }
+    ensures scope { IfOk result (λ next. below_next (scope_of scope.now) next ≡ scope_of scope.now) }
     ensures left { run.new.left ≡ run.old.left }
     ensures falls { IfOk result (λ next. next_weight next < action_weight (action_frame frame.entry)) }
 {
@@ -227,7 +276,9 @@ pub fn take_action<'a>(
             run.write(alloc, before, Some(&value), behind)?;
             Ok(Next::Give(Reply::Went(Exit::GoesOn)))
         }
-        ForAction::ChangeValue(what, address) => Ok(change_to(place, what, value, address)),
+        ForAction::ChangeValue(what, address) => {
+            change_at(alloc, scope, place, what, value, address, run, targets)
+        }
         ForAction::ForTrain(bound, suite) => {
             let train = Train::of(alloc, value)?;
             Ok(Next::Go(Work(place, Job::TurnsOver(bound, suite, train))))

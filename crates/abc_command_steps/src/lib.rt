@@ -5,4 +5,4 @@ mod commands;
 mod performing;
 
 pub use commands::{take_action, take_spot, turn, turn_on, turns_over, unless_left};
-pub use performing::{change_to, choose, perform, perform_all, perform_at};
+pub use performing::{change_to, choose, perform, perform_all, perform_at, perform_rest};

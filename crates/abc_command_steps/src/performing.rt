@@ -15,9 +15,10 @@ ghost use Rattle.abc_value.specs.declared.faults.RunFault.TheVariants.{TooDeep};
 ghost use Rattle.abc_state.specs.declared.halt.Halt.TheVariants.{Fault};
 ghost use Rattle.abc_meaning.specs.Addresses.{address as address_by};
 ghost use Rattle.abc_meaning.specs.Acts.{acts_with};
+ghost use Rattle.abc_meaning.specs.Calls.{suite as commands, then_on};
 ghost use Rattle.abc_meaning.specs.Meaning.{meaning};
 ghost use Rattle.abc_state.specs.Words.{with_lines};
-ghost use Rattle.abc_state.specs.Views.{at as standing_at, scope_of, state_of};
+ghost use Rattle.abc_state.specs.Views.{at as standing_at, flow_of, scope_of, state_of};
 ghost use Rattle.abc_pending.specs.Leads.{as_flow, change_by, doing, done, first_of};
 ghost use Rattle.abc_pending.specs.Pending.{choose, perform_all};
 ghost use Rattle.abc_pending.specs.Steps.{state_with, stop_of, Starts, TakesNoLine};
@@ -57,18 +58,37 @@ fn front<T>(items: &Items<T>, at: usize) -> Option<(&T, usize)>
     }
 }
 
-/// The commands of a suite from this place on.
+/// The commands of a suite from this place on. Nothing waits for the end of the last one.
+#[tactic(auto, using(crate::proofs::Alone::last_alone, crate::proofs::Fronts::none_behind))]
 pub fn perform_all<'a>(place: Place, suite: &'a Suite, at: usize) -> Next<'a>
     ensures leads { (units : List Routine) (scope : Names) (s : State) → doing units (meaning units place.levels) (standing_at scope place.line) (perform_all (drop at suite.now)) s ≡ begin_of units scope result s }
     ensures scope { (scope : Names) → below_next scope result ≡ scope }
     ensures falls { next_weight result < 1 + suite_size (drop at suite.now) }
 {
-    match front(suite, at) {
-        None => Next::Give(Reply::Went(Exit::GoesOn)),
-        Some((_first, behind)) => Next::Wait(
-            Waiting::Flow(place, ForFlow::SuiteRest(suite, behind)),
-            Work(place, Job::Perform(suite, at)),
-        ),
+    let Some((_first, behind)) = front(suite, at) else {
+        return Next::Give(Reply::Went(Exit::GoesOn));
+    };
+    let work = Work(place, Job::Perform(suite, at));
+    if behind >= suite.len() {
+        return Next::Go(work);
+    }
+    Next::Wait(
+        Waiting::Flow(place, ForFlow::SuiteRest(suite, behind)),
+        work,
+    )
+}
+
+/// The same behind a command that ended so.
+pub fn perform_rest<'a>(place: Place, suite: &'a Suite, at: usize, exit: Exit) -> Next<'a>
+    ensures leads { (units : List Routine) (scope : Names) (s : State) → as_flow (then_on (flow_of exit) (commands (meaning units place.levels) (standing_at scope place.line) (drop at suite.now)) s) ≡ begin_of units scope result s }
+    ensures scope { (scope : Names) → below_next scope result ≡ scope }
+    ensures falls { next_weight result < 2 + suite_size (drop at suite.now) }
+{
+    match exit {
+        Exit::GoesOn => perform_all(place, suite, at),
+        Exit::Quits => Next::Give(Reply::Went(Exit::Quits)),
+        Exit::Returns(value) => Next::Give(Reply::Went(Exit::Returns(value))),
+        Exit::Reports(truth) => Next::Give(Reply::Went(Exit::Reports(truth))),
     }
 }
 
@@ -95,7 +115,7 @@ pub fn choose<'a>(
             Waiting::Truth(place, ForTruth::SelectTest(&first.suite, all, behind)),
             Work(there, Job::Try(test)),
         )),
-        None => Ok(Next::Go(Work(place, Job::PerformAll(&first.suite, 0)))),
+        None => Ok(perform_all(place, &first.suite, 0)),
     }
 }
 

@@ -42,15 +42,6 @@ module _ (old mid new : Drafted) (k : ℕ) (ds : List Demand) (is : IsAsked old 
         passed = ap (λ h. h.calls) e ∙ is.passed;
       }
 
-  -- and then other demands
-  pub asked_more : (k2 : ℕ) (es : List Demand) → IsAsked mid new k2 es → IsAsked old new (k + k2) (ds ++ es)
-  asked_more k2 es later = record {
-    first = later.first ∙ is.first;
-    counted = omega (arith, is.counted, later.counted);
-    asked = later.asked ∙ (ap (λ xs. xs ++ es) is.asked ∙ append_assoc old.demands ds es);
-    passed = later.passed ∙ is.passed;
-  }
-
 -- Of the demands `all` some were asked; `rest` are left.
 pub record SoFar (old now : Drafted) (all rest : List Demand) : Type 0 where
   pub done : List Demand

@@ -1,10 +1,9 @@
 -- Graphs to which something was added, and the way back.
-use Rattle.std.proofs.Common.{◌≡◌, ◌∙◌, ℕ, ◌+◌, ◌≤◌, List, [], ◌∷◌, ◌++◌, length, ap, sym, subst, refl, arith}
+use Rattle.std.proofs.Common.{◌≡◌, ◌∙◌, ℕ, ◌+◌, ◌≤◌, [], ◌∷◌, ◌++◌, length, ap, sym, subst, refl, arith}
 use Rattle.std.proofs.Math.ListN.{length-append}
-use Rattle.abc_terms.specs.declared.demand.Demand.{Demand}
-use Rattle.abc_unify.specs.Graphs.{Seen, held, back_at, with_variable, with_demands}
+use Rattle.abc_unify.specs.Graphs.{Seen, held, back_at, with_variable}
 use Rattle.abc_unify.proofs.Backward.{back_now, back_more}
-use Rattle.abc_demand.specs.inner.Graphs.{IsLater}
+use Rattle.abc_demand.specs.Later.{IsLater}
 
 pub later_same : (s : Seen) → IsLater s s
 later_same s m le = (le, refl)
@@ -22,9 +21,6 @@ later_then s t u one two m le =
 
 pub later_fresh : (s t u : Seen) → IsLater s t → u ≡ with_variable t → IsLater s u
 later_fresh s t u one is = later_then s t u one (later_added t u (ap (λ x. x.past) is))
-
-pub later_demands : (s t u : Seen) (more : List Demand) → IsLater s t → u ≡ with_demands t more → IsLater s u
-later_demands s t u more one is = later_then s t u one (later_added t u (ap (λ x. x.past) is))
 
 pub later_equal : (s t u : Seen) → IsLater s t → u ≡ t → IsLater s u
 later_equal s t u one is = subst (λ (x : Seen). IsLater s x) (sym is) one

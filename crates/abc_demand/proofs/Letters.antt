@@ -27,9 +27,6 @@ use Rattle.abc_demand.proofs.Leading.{leads_leaf, leads_bare, leads_as, leads_th
 one : (P : Demand → Type 0) (d : Demand) → P d → All P (d ∷ [])
 one P d h = All-cons P d [] h (All-nil P)
 
-zero_more : {m n : ℕ} → m ≡ n → m ≡ n + 0
-zero_more h = omega (arith, h)
-
 three : (P : Demand → Type 0) (d e f : Demand) → P d → P e → P f → All P (d ∷ e ∷ f ∷ [])
 three P d e f h i j = All-cons P d (e ∷ f ∷ []) h (All-cons P e (f ∷ []) i (one P f j))
 

@@ -7,10 +7,10 @@ use Rattle.abc_num.specs.Text.{text_eq}
 use Rattle.abc_num.specs.declared.types.Ground.{Ground}
 use Rattle.abc_terms.specs.declared.term.VarId.{VarId}
 use Rattle.abc_tree.proofs.Adding.{from_place}
-use Rattle.abc_demand.specs.Typings.{types_of, var_of, Agree, AreMade}
+use Rattle.abc_demand.specs.Typings.{types_of, var_of, Agree, AreMade, TargetsMade}
 use Rattle.abc_demand.specs.Demanded.{AreGiven}
 use Rattle.abc_demand.specs.inner.Drafts.{Drafted, with_fresh}
-use Rattle.abc_demand.specs.inner.Named.{role, roles, RolesFit, TargetsMade, Named, Naming}
+use Rattle.abc_demand.specs.inner.Named.{role, roles, RolesFit, Named, Naming}
 use Rattle.abc_demand.proofs.Leading.{extended, extended_below, extended_at}
 use Rattle.abc_demand.proofs.Ranged.{none_past}
 use Rattle.abc_num.proofs.Texts.{text_eq-Decides}
@@ -259,16 +259,6 @@ naming_last names flags old now before after i vars le n =
     let none : roles names i (drop i flags) ≡ [] = ap (λ fs. roles names i fs) (none_past flags i le) in
     let done : n.done ≡ roles names 0 flags = sym (append-nil n.done) ∙ (ap (λ rs. n.done ++ rs) (sym none) ∙ n.all) in
     subst (λ rs. Named old now before after rs vars) done n.named
-
--- targets behind others, and others behind these
-pub behind_both : (before between after : Targets) → ((added : Targets) × (between ≡ before ++ added)) → ((added : Targets) × (after ≡ between ++ added)) → (added : Targets) × (after ≡ before ++ added)
-behind_both before between after one two = (one.0 ++ two.0, two.1 ∙ (ap (λ ps. ps ++ two.0) one.1 ∙ append_assoc before one.0 two.0))
-
-pub behind_none : (before : Targets) → (added : Targets) × (before ≡ before ++ added)
-behind_none before = ([], sym (append-nil before))
-
-pub behind_given : (n m : ℕ) (before after : Targets) → AreGiven n m before after → (added : Targets) × (after ≡ before ++ added)
-behind_given n m before after g = (g.added, g.behind)
 
 -- the loop at a place
 pub record IsNaming (names : List (List ℕ)) (flags : List Bool) (old now : Drafted) (before after : Targets) (place i : ℕ) (vars : List VarId) : Type 0 where

@@ -88,9 +88,6 @@ module _ (s : Scope) where
       walked_node s old last new one_type (x ∷ xs) (a.0 ∷ numbers vars) [] made (walked_both s old mid last (x ∷ []) xs (a.0 ∷ []) (numbers vars) made one others) (chain_leads typed last new a vars ha there is) is.passed
 
   -- nothing is asked of parts
-  no_types : (g : Typing) (parts : List Ground) (t : Ground) (ts : List Ground) → RuleFits g any parts (t ∷ ts) → ⊥
-  no_types g parts t ts h = h
-
   pub any_walked : (old new : Drafted) (xs : List Node) (parts : List ℕ) → scope_bound s ≤ old.count → Walked s old new xs parts → Walked s old new (node any (nodes xs) ∷ []) []
   any_walked old new xs parts made walked = walked_node s old new new any xs parts [] made walked (any_leads (on typed parts) new (λ y ts. RuleFits y.0 any y.1 ts) (λ v. tt) (λ v t ts h. h)) refl
 

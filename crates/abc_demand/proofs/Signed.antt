@@ -1,6 +1,6 @@
 -- What nodes leave of a list of signatures.
 use Rattle.std.proofs.Common.{◌≡◌, ◌∙◌, ℕ, zero, suc, ◌+◌, List, [], ◌∷◌, ◌++◌, length, drop, ap, sym, refl, arith}
-use Rattle.std.specs.Prelude.{Option, slice_index_or}
+use Rattle.std.specs.Prelude.{Option}
 use Rattle.abc_num.specs.declared.types.Ground.{Ground}
 use Rattle.abc_tree.specs.declared.templates.Template.{Template}
 use Rattle.abc_ground.specs.Seen.{Nodes}
@@ -27,12 +27,6 @@ drop_front (s ∷ ss) after = drop_front ss after
 drop_none : (n : ℕ) → drop {A = Option Signature} n [] ≡ []
 drop_none zero = refl
 drop_none (suc n) = refl
-
-pub heads_same : (s t : Option Signature) (ss ts : Sigs) → s ∷ ss ≡ t ∷ ts → s ≡ t
-heads_same s t ss ts e = ap (λ l. slice_index_or l 0 s) e
-
-pub tails_same : (s t : Option Signature) (ss ts : Sigs) → s ∷ ss ≡ t ∷ ts → ss ≡ ts
-tails_same s t ss ts e = ap (drop 1) e
 
 drop_more : (l : Sigs) (i j : ℕ) → drop j (drop i l) ≡ drop (i + j) l
 drop_more l zero j = let e : j ≡ 0 + j = omega arith in ap (λ n. drop n l) e

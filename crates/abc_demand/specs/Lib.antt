@@ -1,3 +1,4 @@
 pub mod Demanded
+pub mod Later
 pub mod Typings
 pub mod inner

@@ -42,6 +42,10 @@ Agree vars v targets = (name : List ℕ) (a : VarId) → var_of vars name ≡ So
 abbrev pub AreMade : ℕ → List VarId → Type 0
 AreMade n vars = All (λ a. a.0 < n) vars
 
+-- the same of the variables of targets
+abbrev pub TargetsMade : ℕ → List (List ℕ × VarId) → Type 0
+TargetsMade n vars = All (λ p. p.1.0 < n) vars
+
 abbrev pub IsMade : ℕ → Option VarId → Type 0
 IsMade n None = Unit {0}
 IsMade n (Some a) = a.0 < n
@@ -56,6 +60,6 @@ CallMade n (Some s) = SignatureMade n s
 
 -- all variables that are told of are among the first n
 pub record EnvMade (n : ℕ) (env : Env) : Type 0 where
-  pub targets : All (λ p. p.1.0 < n) env.targets
+  pub targets : TargetsMade n env.targets
   pub own : CallMade n env.own
   pub calls : All (CallMade n) env.calls

@@ -1,6 +1,5 @@
--- Steps of the code. Of public clauses `later` uses `IsLater`, and abc_principal and abc_check use `TargetsMade`.
+-- Steps of the code, in words that no public clause uses.
 pub mod Drafts
-pub mod Graphs
 pub mod Leads
 pub mod Named
 pub mod Walks

@@ -3,7 +3,7 @@ ghost use Rattle.std.specs.Prelude.{◌≡◌, ◌+◌, ◌++◌, Err, OnOk, OnE
 ghost use Rattle.std.specs.List.{All};
 ghost use Rattle.abc_terms.specs.Nodes.{DemandIn};
 ghost use Rattle.abc_unify.specs.Graphs.{IsUnsolvable};
-ghost use Rattle.abc_demand.specs.inner.Graphs.{IsLater};
+ghost use Rattle.abc_demand.specs.Later.{IsLater};
 
 use abc_num::OutOfMemory;
 use abc_terms::Demand;

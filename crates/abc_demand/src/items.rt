@@ -4,7 +4,7 @@ ghost use Rattle.abc_terms.specs.declared.term.VarId.{VarId as TheVar};
 ghost use Rattle.abc_tree.specs.RegularItems.{AreFlags};
 ghost use Rattle.abc_demand.specs.Typings.{EnvMade, result_var};
 ghost use Rattle.abc_demand.specs.Demanded.{UnitTyped, CommandTyped, IsDemanded, IsRefused, AreGiven};
-ghost use Rattle.abc_demand.specs.inner.Graphs.{IsLater};
+ghost use Rattle.abc_demand.specs.Later.{IsLater};
 ghost use Rattle.abc_demand.specs.inner.Wholes.{UnitAsked, CommandAsked};
 
 use crate::adding::add;

@@ -1,7 +1,8 @@
 //! Variables for the names of an item.
 ghost use Rattle.std.specs.Prelude.{◌≡◌, ◌∷◌, ◌++◌, ℕ, List, [], Some, IfOk};
 ghost use Rattle.abc_terms.specs.declared.term.VarId.{VarId as TheVar};
-ghost use Rattle.abc_demand.specs.inner.Named.{role, roles, TargetsMade, Named};
+ghost use Rattle.abc_demand.specs.inner.Named.{role, roles, Named};
+ghost use Rattle.abc_demand.specs.Typings.{TargetsMade};
 
 use crate::TargetVars;
 use crate::draft::Draft;

@@ -31,9 +31,9 @@ use Rattle.abc_expressions.specs.declared.texts.Part.{Part}
 use Rattle.abc_expressions.specs.declared.lexemes.Lexeme.{Lexeme}
 use Rattle.abc_expressions.specs.Lexemes.{seen}
 use Rattle.abc_expressions.specs.declared.lexemes.Lexeme.TheVariants as t
-use Rattle.abc_expressions.specs.Operators.{kind_of, begins, lead_by, sign_lead, lead, infix_of, joined1, joined2}
+use Rattle.abc_expressions.specs.Operators.{kind_of, begins, lead_by, sign_lead, lead, infix_of, joined1, joined2, sign_of}
 use Rattle.abc_expressions.specs.Grammar.{compound, paired, Spells, number, text, name, call, before, between, select, round, empty, list, table, Parts, one, more, Filler, single, range, Fills, one_fill, more_fills, Entry, entry, Pairs, one_pair, more_pairs, Pieces, none, characters, conversion, Spelled}
-use Rattle.abc_expressions.specs.inner.Machine.{Found, Next, Leaves, converter, reader, role_of, sign_operand, leaf_operand, operand, wanted, reach, within, taken, sign_of, after_part, wholly, go_on_after, popped, in_display, whole_found, finished, run, tree_of, alone, lexed, pieces_of, front_piece, converted_piece, text_of, text_by, number_of, read_tokens}
+use Rattle.abc_expressions.specs.inner.Machine.{Found, Next, Leaves, converter, reader, role_of, sign_operand, leaf_operand, operand, wanted, reach, within, taken, after_part, wholly, go_on_after, popped, in_display, whole_found, finished, run, tree_of, alone, lexed, pieces_of, front_piece, converted_piece, text_of, text_by, number_of, read_tokens}
 use Rattle.abc_tokens.proofs.Faults.{OneReading}
 use Rattle.abc_expressions.proofs.Levels.{Shaped, HasShape, shaped, reach_joins, grasp, Follows, follows_more, follows_right, same_level, stop_between, stop_before}
 use Rattle.abc_expressions.proofs.NumberValues.{value_found as number_found}

@@ -15,7 +15,7 @@ use Rattle.abc_expressions.specs.declared.tree.ExpressionFront.{ExpressionFront}
 use Rattle.abc_expressions.specs.Fronts.{EndsBefore, IsFront, FindsOnly}
 use Rattle.abc_expressions.specs.Grammar.{Spells}
 use Rattle.abc_expressions.specs.inner.Machine.{Found, Leaves, reader, reach, within, taken, run, popped, finished, tree_at, expression_of}
-use Rattle.abc_expressions.specs.inner.Steps.{Finds}
+use Rattle.abc_expressions.specs.Readings.{Finds}
 use Rattle.abc_tokens.proofs.Faults.{OneReading}
 use Rattle.abc_expressions.proofs.Complete.{complete}
 use Rattle.abc_expressions.proofs.Levels.{grasp, Follows}

@@ -1,7 +1,7 @@
 -- Numbers, texts and the tokens of conversions are read as they are defined.
 use Rattle.std.proofs.Common.{◌≡◌, ℕ, zero, suc, Bool, true, false, ◌&&◌, List, [], ◌∷◌, length, map, All, Option, Some, None, refl, ap, sym, ◌∙◌, arith}
 use Rattle.std.proofs.lemmas.Bool.{and_parts}
-use Rattle.std.specs.Prelude.{if◌then◌else◌}
+use Rattle.std.specs.Prelude.{if◌then◌else◌, pos}
 use Rattle.std.specs.List.{list_all}
 use Rattle.std.proofs.lemmas.Option.{same_Some}
 use Rattle.abc_num.specs.Number.{Fraction}
@@ -11,7 +11,6 @@ use Rattle.abc_tokens.specs.Tokens.{AreTokens, IsSound, has_characters}
 use Rattle.abc_expressions.specs.declared.lexemes.Lexeme.{Lexeme}
 use Rattle.abc_expressions.specs.Lexemes.{seen}
 use Rattle.abc_expressions.specs.inner.Numbers.{number_at}
-use Rattle.std.specs.Prelude.{pos}
 use Rattle.abc_num.specs.Literal.{literal_numerator, literal_denominator}
 use Rattle.abc_num.specs.Ratio.{IsNoNumber}
 use Rattle.abc_tree.specs.declared.formulas.Expr.TheVariants as e

@@ -15,8 +15,8 @@ use Rattle.abc_expressions.specs.declared.frames.Reach.TheVariants as r
 use Rattle.abc_expressions.specs.declared.frames.Step.{Step}
 use Rattle.abc_expressions.specs.declared.frames.Step.TheVariants as step
 use Rattle.abc_expressions.specs.declared.lexemes.Lexeme.{Lexeme}
-use Rattle.abc_expressions.specs.Operators.{joined1, joined2}
-use Rattle.abc_expressions.specs.inner.Machine.{Found, Next, reach, goes_on, within, taken, popped, sign_of, after_part, go_on_after, opened, wanted, finished, whole_found, wholly}
+use Rattle.abc_expressions.specs.Operators.{joined1, joined2, sign_of}
+use Rattle.abc_expressions.specs.inner.Machine.{Found, Next, reach, goes_on, within, taken, popped, after_part, go_on_after, opened, wanted, finished, whole_found, wholly}
 use Rattle.abc_expressions.specs.inner.Steps.{Steps, Gives, behind, opens}
 
 -- the same group

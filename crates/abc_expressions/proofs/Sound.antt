@@ -36,11 +36,11 @@ use Rattle.abc_expressions.specs.declared.texts.Part.TheVariants as part
 use Rattle.abc_expressions.specs.declared.lexemes.Lexeme.{Lexeme}
 use Rattle.abc_expressions.specs.Lexemes.{seen}
 use Rattle.abc_expressions.specs.declared.lexemes.Lexeme.TheVariants as t
-use Rattle.abc_expressions.specs.Operators.{kind_of, begins, lead_by, lead, infix_of, joined1, joined2}
+use Rattle.abc_expressions.specs.Operators.{kind_of, begins, lead_by, lead, infix_of, joined1, joined2, sign_of}
 use Rattle.abc_expressions.specs.Grammar.{compound, paired, Spells, number, text, name, call, before, between, select, round, empty, list, table, Parts, one, more, single, range, Fills, one_fill, more_fills, Entry, entry, Pairs, one_pair, more_pairs, Pieces, none, characters, conversion, Spelled}
 use Rattle.abc_expressions.specs.Fronts.{EndsBefore, IsFront}
 use Rattle.abc_expressions.specs.inner.Numbers.{number_at}
-use Rattle.abc_expressions.specs.inner.Machine.{Found, Leaves, Converts, converter, reader, leaf, role_of, leaf_operand, operand, opened, displayed, wanted, reach_by, reach, within, taken, sign_of, after_part, go_on_after, popped, in_display, at_pair, at_colon, finished, run, tree_of, alone, lexed, split, Splitting, pieces_of, conversion_at, front_piece, converted_piece, text_of, text_by, number_of, read_tokens, expression_of}
+use Rattle.abc_expressions.specs.inner.Machine.{Found, Leaves, Converts, converter, reader, leaf, role_of, leaf_operand, operand, opened, displayed, wanted, reach_by, reach, within, taken, after_part, go_on_after, popped, in_display, at_pair, at_colon, finished, run, tree_of, alone, lexed, split, Splitting, pieces_of, conversion_at, front_piece, converted_piece, text_of, text_by, number_of, read_tokens, expression_of}
 use Rattle.abc_tokens.proofs.Faults.{OneReading}
 use Rattle.abc_expressions.proofs.Levels.{HasShape, shaped_reach}
 use Rattle.abc_expressions.proofs.Ending.{NoComma, IsWholeFront, Full, passed, full_at_first, full_between, full_before, ends_before}

@@ -18,7 +18,8 @@ use Rattle.abc_expressions.specs.declared.lexemes.Lexeme.{Lexeme}
 use Rattle.abc_expressions.specs.declared.signs.Sign.{Sign}
 use Rattle.abc_expressions.specs.declared.signs.Sign.TheVariants as s
 use Rattle.abc_expressions.specs.inner.Machine.{Found, Leaves, Converts, converter, leaf, wanted, in_display, at_pair, at_colon, at_end, at_token, finished, run, tree_of, alone, lexed, conversion_at, read_tokens}
-use Rattle.abc_expressions.specs.inner.Steps.{Steps, Gives, Finds}
+use Rattle.abc_expressions.specs.inner.Steps.{Steps, Gives}
+use Rattle.abc_expressions.specs.Readings.{Finds}
 
 -- pieces that were found before others
 abbrev pub after_pieces : List Piece → Option (List Piece) → Option (List Piece)

@@ -143,3 +143,12 @@ joined1 (j.Call f) a = e.Call f (a ∷ [])
 abbrev pub joined2 : Join → Expr → Expr → Expr
 joined2 (j.Op o) a b = e.Apply2 o a b
 joined2 (j.Call f) a b = e.Call f (a ∷ b ∷ [])
+
+-- the sign that a token is
+abbrev pub sign_of : Lexeme → Sign
+sign_of (t.Sign sign) = sign
+sign_of (t.Number bytes) = s.Other
+sign_of (t.Name x) = s.Other
+sign_of (t.Keyword x) = s.Other
+sign_of (t.Text bytes) = s.Other
+sign_of t.Other = s.Other

@@ -1,4 +1,4 @@
--- Steps of the code. Of public clauses `read` of `expression_in_front` and that of `sign_of` use them, and the computed readings.
+-- Steps of the code, in words that no public clause uses; the computed readings are made of them.
 pub mod AddressSteps
 pub mod Heights
 pub mod Machine

@@ -2,8 +2,7 @@
 ghost use Rattle.std.specs.Prelude.{◌≡◌, ◌≤◌, ℕ, All};
 ghost use Rattle.abc_expressions.specs.Fronts.{IsFront, FindsOnly};
 ghost use Rattle.abc_expressions.specs.Lexemes.{IsSpelled};
-ghost use Rattle.abc_expressions.specs.inner.Machine.{reader, expression_of};
-ghost use Rattle.abc_expressions.specs.inner.Steps.{Finds};
+ghost use Rattle.abc_expressions.specs.Readings.{Finds, in_front};
 
 use crate::fault::FormulaFault;
 use crate::frames::Group;
@@ -24,7 +23,7 @@ pub fn expression_in_front<'a>(
     least: u8,
 ) -> Result<ExpressionFront<'a>, FormulaFault>
     requires spelled { All IsSpelled tokens.now }
-    ensures read { (c : ℕ) → left ≤ c → Finds result (expression_of (reader own.now c) own.now least left tokens.now) }
+    ensures read { (c : ℕ) → left ≤ c → Finds result (in_front own.now c least left tokens.now) }
     ensures single { least ≤ 10 → FindsOnly (IsFront own.now left least tokens.now) result }
 {
     one_reading();

@@ -1,7 +1,7 @@
 //! What a token is, by the names that are own and those that are predefined.
 ghost use Rattle.std.specs.Prelude.{◌≡◌, ◌<◌, ◌+◌, IfOk};
-ghost use Rattle.abc_expressions.specs.Operators.{given, kind_of, may_begin, begins, sign_infix, infix_by, infix_of};
-ghost use Rattle.abc_expressions.specs.inner.Machine.{role_of, sign_operand, leaf_operand, operand, reach, goes_on, sign_of};
+ghost use Rattle.abc_expressions.specs.Operators.{given, kind_of, may_begin, begins, sign_infix, infix_by, infix_of, sign_of};
+ghost use Rattle.abc_expressions.specs.inner.Machine.{role_of, sign_operand, leaf_operand, operand, reach, goes_on};
 
 use crate::frames::{Infix, Join, Kind, Operand, Reach};
 use crate::lexemes::Lexeme;

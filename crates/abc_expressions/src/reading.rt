@@ -1,12 +1,11 @@
 //! Reading tokens by an operator-precedence parser with a stack of its own. A frame waits for its last operand: an operator,
 //! or an open bracket. A token behind an operand goes on with it where it binds tightly enough; else the frame on top is
 //! reduced. So no function calls itself, and time is proportional to the number of tokens.
-ghost use Rattle.std.specs.Prelude.{◌≡◌, ◌+◌, ◌<◌, ◌≤◌, [], ◌∷◌, List, suc};
+ghost use Rattle.std.specs.Prelude.{◌≡◌, ◌+◌, ◌<◌, ◌≤◌, [], ◌∷◌, List, suc, None};
 ghost use Rattle.abc_expressions.specs.inner.Machine.{opened, displayed, wanted, taken, after_part, go_on_after, at_pair, at_colon, finished, whole_found, wholly};
 ghost use Rattle.abc_expressions.specs.inner.Steps.{Steps, behind, opens, Counts, Gives};
 ghost use Rattle.abc_expressions.specs.declared.frames.Frame.TheVariants.{Inside};
 ghost use Rattle.abc_expressions.specs.declared.lexemes.Lexeme.{Lexeme};
-ghost use Rattle.std.specs.Prelude.{None};
 ghost use Rattle.abc_expressions.specs.declared.frames.Group.TheVariants as grp;
 ghost use Rattle.abc_expressions.specs.declared.frames.Turn.TheVariants.{Has};
 ghost use Rattle.abc_tree.specs.declared.formulas.Expr.TheVariants.{Empty};

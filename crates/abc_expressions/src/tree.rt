@@ -4,7 +4,8 @@ ghost use Rattle.abc_num.specs.Literal.{IsNumberToken};
 ghost use Rattle.abc_expressions.specs.Lexemes.{IsSpelled};
 ghost use Rattle.abc_expressions.specs.inner.Machine.{converter, reader, operand, at_token, tree_at, number_of, text_by, split_text, pieces_of, piece_of, conversion_at, lexed};
 ghost use Rattle.abc_expressions.specs.inner.Numbers.{number_at};
-ghost use Rattle.abc_expressions.specs.inner.Steps.{Steps, opens, held, group_opens, Brings, Counts, Finds};
+ghost use Rattle.abc_expressions.specs.inner.Steps.{Steps, opens, held, group_opens, Brings, Counts};
+ghost use Rattle.abc_expressions.specs.Readings.{Finds};
 
 use crate::fault::FormulaFault;
 use crate::frames::{Frame, Group, Operand, Step, Turn};

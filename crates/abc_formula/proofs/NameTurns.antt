@@ -7,7 +7,7 @@ use Rattle.abc_expressions.specs.declared.fault.FormulaFault.{FormulaFault}
 use Rattle.abc_expressions.specs.declared.fault.FormulaFault.TheVariants as fault
 use Rattle.abc_expressions.specs.declared.lexemes.Lexeme.{Lexeme}
 use Rattle.abc_expressions.specs.declared.signs.Sign.{Sign}
-use Rattle.abc_expressions.specs.inner.Machine.{sign_of}
+use Rattle.abc_expressions.specs.Operators.{sign_of}
 use Rattle.abc_formula.specs.declared.test_frames.NamesEnd.{NamesEnd}
 use Rattle.abc_formula.specs.inner.TestMachine.{FoundNames, Groups, Naming, at_name, behind_name, is_end, names_end, names_in}
 use Rattle.abc_formula.specs.inner.TestSteps.{Fewer, NameSteps, FindsNames}

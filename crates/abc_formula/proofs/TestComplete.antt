@@ -30,9 +30,9 @@ use Rattle.abc_formula.specs.declared.test_frames.Behind.TheVariants as behind
 use Rattle.abc_formula.specs.declared.test_frames.Front.TheVariants as front
 use Rattle.abc_formula.specs.declared.test_frames.NamesEnd.{NamesEnd}
 use Rattle.abc_formula.specs.declared.test_frames.NamesEnd.TheVariants as end
-use Rattle.abc_expressions.specs.Operators.{kind_of, infix_by, leftward}
+use Rattle.abc_expressions.specs.Operators.{kind_of, infix_by, leftward, sign_of}
 use Rattle.abc_expressions.specs.Grammar.{Spells, own_name}
-use Rattle.abc_expressions.specs.inner.Machine.{reader, reach_by, reach, sign_of, expression_of}
+use Rattle.abc_expressions.specs.inner.Machine.{reader, reach_by, reach, expression_of}
 use Rattle.abc_tokens.proofs.Faults.{OneReading}
 use Rattle.abc_formula.specs.TestGrammar.{is_keyword, quantifier_of, relation_of, membership_of, membership_by, link, is_round, gathered, takes_and, takes_or, Binds, last_name, more_names, BindsPart, one_name, round_names, Relates, last_link, more_links, Tests, alone, negated, quantified, both, either, Parted, round, chain, member, call, refinement}
 use Rattle.abc_formula.specs.inner.TestMachine.{FoundTest, Groups, onward, name_read, behind_name, ends, is_end, names_end, names_in, FoundNames, FoundLinks, linked, links_by, links_in, lone_by, before, lone, chained, contained, part_by, part_of, Reads, closed, rounded, tight, wrapped, from_keyword, has_test, front_by, front_of, behind_of, joined, from_front, test_in}

@@ -28,9 +28,9 @@ use Rattle.abc_formula.specs.declared.test_frames.Place.TheVariants as place
 use Rattle.abc_formula.specs.declared.test_frames.Behind.TheVariants as behind
 use Rattle.abc_formula.specs.declared.test_frames.NamesEnd.{NamesEnd}
 use Rattle.abc_formula.specs.declared.test_frames.NamesEnd.TheVariants as end
-use Rattle.abc_expressions.specs.Operators.{kind_of}
+use Rattle.abc_expressions.specs.Operators.{kind_of, sign_of}
 use Rattle.abc_expressions.specs.Grammar.{Spells}
-use Rattle.abc_expressions.specs.inner.Machine.{Found, reader, sign_of, expression_of}
+use Rattle.abc_expressions.specs.inner.Machine.{Found, reader, expression_of}
 use Rattle.abc_tokens.proofs.Faults.{OneReading}
 use Rattle.abc_formula.specs.TestGrammar.{is_keyword, quantifier_of, relation_of, membership_of, predicate, link, is_round, gathered, takes_and, takes_or, Binds, last_name, more_names, BindsPart, one_name, round_names, Relates, last_link, more_links, Tests, alone, negated, quantified, both, either, Parted, round, chain, member, call, refinement}
 use Rattle.abc_formula.specs.inner.TestMachine.{FoundTest, Groups, onward, name_read, at_names_sign, at_name, behind_name, ends, is_end, names_end, names_in, FoundLinks, linked, links_by, links_in, lone_by, before, lone, chained, contained, part_by, part_of, Reads, closed, rounded, tight, wrapped, from_keyword, has_test, quantifies, front_by, behind_of, rest_of, joined, from_front, test_in}

@@ -14,7 +14,7 @@ use Rattle.abc_tree.specs.declared.operations.Op.{Op}
 use Rattle.std.proofs.lemmas.List.{append_assoc, append-nil, take_all}
 use Rattle.abc_expressions.specs.inner.Machine.{Leaves, reader, expression_of}
 use Rattle.abc_tokens.proofs.Faults.{OneReading}
-use Rattle.abc_expressions.specs.inner.Steps.{Finds}
+use Rattle.abc_expressions.specs.Readings.{Finds}
 use Rattle.abc_formula.specs.TestGrammar.{relation_of, link}
 use Rattle.abc_formula.specs.declared.testing.Advance.{Advance}
 use Rattle.abc_formula.specs.declared.testing.Advance.TheVariants as advance

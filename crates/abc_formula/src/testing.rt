@@ -6,7 +6,7 @@ ghost use Rattle.abc_expressions.specs.inner.Machine.{reader, expression_of};
 ghost use Rattle.abc_formula.specs.TestGrammar.{takes_and, takes_or};
 ghost use Rattle.abc_formula.specs.inner.TestMachine.{Reads, joined, quantifies, links_in, lone, part_of, tight, rounded, from_front, front_of, behind_of, rest_of, from_keyword, test_in};
 ghost use Rattle.abc_formula.specs.inner.TestSteps.{Fewer, FindsLinks, FindsTest, behind_close, Advances, AdvanceRest, NoMore, Begins};
-ghost use Rattle.abc_expressions.specs.inner.Steps.{Finds};
+ghost use Rattle.abc_expressions.specs.Readings.{Finds};
 ghost use Rattle.abc_formula.specs.declared.test_frames.Place.TheVariants.{Whole};
 
 use crate::bounds::{gathered, names_in};

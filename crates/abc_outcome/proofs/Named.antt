@@ -12,7 +12,7 @@ use Rattle.abc_frames.specs.Maps.{with_value, without}
 use Rattle.abc_record.specs.declared.change.Change.{Change}
 use Rattle.abc_record.specs.declared.change.Change.TheVariants.{SetTarget, DropTarget, SetUnit, DropUnit}
 use Rattle.abc_record.specs.Kept.{IsFlush, IsKeptLine, AreKeptLines}
-use Rattle.abc_record.specs.inner.Reading.{is_kept_name, is_kept_line, is_flush}
+use Rattle.abc_record.specs.KeptTests.{is_kept_name, is_kept_line, is_flush}
 use Rattle.abc_record.proofs.Changes.{name_told}
 use Rattle.abc_store.specs.Workspace.{Workspace, changed_by, AreNamed, unit_of_lines, with_routine}
 use Rattle.abc_store.proofs.Targets.{named_with, named_without}

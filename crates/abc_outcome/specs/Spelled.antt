@@ -6,7 +6,7 @@ use Rattle.abc_num.specs.declared.limits.TheConstants.{MOST_LINES, MOST_LINE_BYT
 use Rattle.abc_num.specs.declared.lines.Line.{Line}
 use Rattle.abc_record.specs.declared.change.Change.{Change}
 use Rattle.abc_record.specs.declared.change.Change.TheVariants.{SetTarget, DropTarget, SetUnit, DropUnit}
-use Rattle.abc_record.specs.inner.Reading.{is_kept_name, is_kept_line}
+use Rattle.abc_record.specs.KeptTests.{is_kept_name, is_kept_line}
 
 -- a line of characters that is not too long, and doesn't begin with a space behind its indentation
 abbrev pub is_spelled_line : Line → Bool

@@ -3,7 +3,7 @@ ghost use Rattle.std.specs.Prelude.{◌≡◌, true};
 ghost use Rattle.std.specs.List.{AllByRecursion, list_all};
 ghost use Rattle.abc_num.specs.Characters.{are_characters};
 ghost use Rattle.abc_record.specs.Kept.{AreKeptLines, IsKeptLine};
-ghost use Rattle.abc_record.specs.inner.Reading.{is_flush, is_kept_line};
+ghost use Rattle.abc_record.specs.KeptTests.{is_flush, is_kept_line};
 ghost use Rattle.abc_outcome.specs.Spelled.{are_spelled_lines, has_spelling, is_spelled_line};
 
 use abc_num::Line;

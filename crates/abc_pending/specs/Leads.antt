@@ -12,7 +12,7 @@ use Rattle.abc_meaning.specs.Here.{Here, Scope, refinement_at, refinement_named}
 use Rattle.abc_meaning.specs.Fits.{train_elements}
 use Rattle.abc_meaning.specs.Deeper.{Deeper, Actual}
 use Rattle.abc_meaning.specs.Calls.{suite, then_on, returned, reported, function_call, predicate_call, expression_refinement, test_refinement}
-use Rattle.abc_meaning.specs.Value.{Filling, Tabling, Wording, composed, there, selected, applied_to_one, applied, worded, list_display, table_display, values, pieces, fillers, entries, name_value}
+use Rattle.abc_meaning.specs.Value.{composed, there, selected, applied_to_one, applied, worded, list_display, table_display, values, pieces, fillers, entries, name_value}
 use Rattle.abc_meaning.specs.Holds.{decides, if_decided, compared, chain, quantified, over_train, refinement_test}
 use Rattle.abc_meaning.specs.Changing.{inserts, removes, parts, put, delete, change_list}
 use Rattle.abc_meaning.specs.Addresses.{stepped, together, whole, address_list, address_within, address as address_of}

@@ -1,12 +1,10 @@
 -- The pending work that the code holds.
-use Rattle.std.specs.Prelude.{◌≡◌, ◌+◌, ℕ, Option, List, [], ◌∷◌, drop, map, option_map, Some, None, Result, Ok, Err, Vec}
-use Rattle.std.specs.List.{sum_by}
+use Rattle.std.specs.Prelude.{◌≡◌, ◌+◌, ℕ, Option, List, [], ◌∷◌, drop, map, option_map, Some, None, Result, Ok, Err}
 use Rattle.abc_tree.specs.declared.commands.Action.{Action, out-Action}
 use Rattle.abc_tree.specs.declared.commands.Unit.{Unit as Routine}
 use Rattle.abc_frames.specs.Maps.{Frame as Names}
 use Rattle.abc_meaning.specs.State.{Address, Formal, State, Got, gives, after}
 use Rattle.abc_meaning.specs.Here.{Scope, line_in}
-use Rattle.abc_meaning.specs.Actuals.{Gathered}
 use Rattle.abc_meaning.specs.Deeper.{Actual}
 use Rattle.abc_value.specs.Tree.{Tree}
 use Rattle.abc_state.specs.Views.{address_of, actual_of, flow_of, formal_of, filling_of, tabling_of, wording_of, scope_of}
@@ -17,8 +15,8 @@ use Rattle.abc_state.specs.declared.spots.Spot.{Spot}
 use Rattle.abc_state.specs.declared.actuals.Actual.{Actual as HeldActual}
 use Rattle.abc_pending.specs.declared.place.Place.{Place}
 use Rattle.abc_pending.specs.Pending.{Answer, val, truth, flow, actual, address, Purpose, to_compound, to_call, Expression-Frame, row_value, converted, filler, range_from, range_to, pair_key, pair_associate, select_table, select_key, apply_one, apply_left, apply_right, Test-Frame, chain_first, chain_next, member_left, member_right, train, Action-Frame, plain_actual, part_actual, address_key, write_between, change_value, for_train, return_value, Truth-Frame, negated, and_then, or_else, element_test, check_test, if_test, select_test, while_test, report_test, Flow-Frame, unit_end, refinement_end, command_end, refined, while_body, for_body, suite_rest, Actual-Frame, actual_table, actual_field, call_actual, Address-Frame, address_table, address_field, change_place, delete_place, Frame, in_expression, in_test, in_action, for_truth, for_flow, for_actual, for_address, Job, see, see_actual, try, perform, perform_all, see_row, spell, fill, fill_table, compare, quantify, see_fields, see_actuals, find, find_row, choose, turn, turns_over, enter, refine, enter_command, refine_command}
-use Rattle.abc_pending.specs.Leads.{now, resume, leads, below}
-use Rattle.abc_pending.specs.Weights.{frame_weight, job_weight, Falls, number_of}
+use Rattle.abc_pending.specs.Leads.{now, resume, below}
+use Rattle.abc_pending.specs.Weights.{frame_weight, job_weight}
 use Rattle.abc_pending.specs.declared.pending.Reply.{Reply}
 use Rattle.abc_pending.specs.declared.pending.Reply.TheVariants.{Val, Truth, Went, Actual as ActualReply, Spot as SpotReply}
 use Rattle.abc_pending.specs.declared.pending.Purpose.{Purpose as HeldPurpose}
@@ -43,11 +41,8 @@ use Rattle.abc_pending.specs.declared.pending.Waiting.{Waiting}
 use Rattle.abc_pending.specs.declared.pending.Waiting.TheVariants.{Expression, Test, Action as OfAction, Truth as OfTruth, Flow, Actual as OfActual, Spot as OfSpot}
 use Rattle.abc_pending.specs.declared.pending.Job.{Job as HeldJob}
 use Rattle.abc_pending.specs.declared.pending.Job.TheVariants as job
-use Rattle.abc_pending.specs.declared.pending.Work.{Work}
 use Rattle.abc_pending.specs.declared.pending.Next.{Next}
 use Rattle.abc_pending.specs.declared.pending.Next.TheVariants.{Give, Go, Wait}
-use Rattle.abc_pending.specs.declared.pending.Doing.{Doing}
-use Rattle.abc_pending.specs.declared.pending.Doing.TheVariants.{Work as Busy, Answered}
 
 abbrev pub reply_of : Reply → Answer
 reply_of (Val v) = val v

@@ -17,14 +17,13 @@ use Rattle.abc_ground.specs.Calls.{AreAllowed}
 use Rattle.abc_ground.specs.Groups.{Cut}
 use Rattle.abc_ground.specs.Typable.{IsProperSignature}
 use Rattle.abc_demand.specs.declared.env.Signature.{Signature as SignatureVars}
-use Rattle.abc_demand.specs.Typings.{signature_of, signatures_of, type_of, var_of, Agree, IsMade, SignatureMade, CallMade}
+use Rattle.abc_demand.specs.Typings.{signature_of, signatures_of, type_of, var_of, Agree, IsMade, SignatureMade, CallMade, TargetsMade}
 use Rattle.abc_demand.specs.Demanded.{AreGiven}
-use Rattle.abc_demand.specs.inner.Named.{TargetsMade}
 use Rattle.abc_demand.proofs.Alike.{signature_alike, calls_alike}
 use Rattle.abc_principal.specs.declared.principal.Principal.{Principal}
 use Rattle.abc_principal.specs.Principals.{Has, IsInstance, HasNone}
-use Rattle.abc_principal.specs.Exact.{Known, known_of}
-use Rattle.abc_principal.specs.inner.Grouped.{Targets, is_called, own_of, IsCall, IsKnownCall, MayCall, AllProper, AreCalls, NoCalls}
+use Rattle.abc_principal.specs.Exact.{Known, known_of, AllProper}
+use Rattle.abc_principal.specs.Calls.{Targets, is_called, own_of, IsCall, IsKnownCall, MayCall, AreCalls, NoCalls}
 use Rattle.abc_principal.proofs.Cutting.{own_mapped, none_mapped}
 use Rattle.abc_principal.proofs.Finding.{agree_fewer, none_before}
 use Rattle.abc_principal.proofs.Named.{given_none}

@@ -15,7 +15,8 @@ use Rattle.abc_tree.specs.Templates.{template_text, template_cmp}
 use Rattle.abc_tree.specs.declared.templates.Template.{Template}
 use Rattle.abc_ground.specs.Fits.{Signature}
 use Rattle.abc_ground.specs.Groups.{Cut, cut_of, template_of, called, Way, LeadsTo, AreTogether}
-use Rattle.abc_principal.specs.inner.Grouped.{is_called, own_of, Each}
+use Rattle.abc_principal.specs.inner.Grouped.{Each}
+use Rattle.abc_principal.specs.Calls.{is_called, own_of}
 
 pub some_of : {X : Type 0} (o : Option X) → IsSome o → (x : X) × (o ≡ Some x)
 some_of None h = absurd (cc)

@@ -28,8 +28,9 @@ use Rattle.abc_demand.specs.declared.env.Signature.{Signature as SignatureVars}
 use Rattle.abc_demand.specs.Typings.{signature_of, types_of, type_of, Agree}
 use Rattle.abc_principal.specs.declared.principal.Principal.{Principal}
 use Rattle.abc_principal.specs.Principals.{IsWhole, Has}
-use Rattle.abc_principal.specs.Exact.{Known, AreProper, IsPrincipal, IsGroup, KnowsCalls, ArePrincipals, MayNothing}
-use Rattle.abc_principal.specs.inner.Grouped.{Targets, own_of, Each, gives_result, HasShape, MemberFits, AllProper, AreSignatures, AreFitted, NoneFits, IsRead, AreRead}
+use Rattle.abc_principal.specs.Exact.{Known, AreProper, IsPrincipal, IsGroup, KnowsCalls, ArePrincipals, MayNothing, AllProper}
+use Rattle.abc_principal.specs.inner.Grouped.{Each, gives_result, HasShape, MemberFits, AreSignatures, AreFitted, NoneFits, IsRead, AreRead}
+use Rattle.abc_principal.specs.Calls.{Targets, own_of}
 use Rattle.abc_principal.proofs.Asked.{proper_of, owns_alike}
 use Rattle.abc_principal.proofs.Cutting.{one_found, first, behind, each_more, own_mapped, same_called, not_called}
 use Rattle.abc_principal.proofs.Together.{may_have, together_at, TogetherAt}

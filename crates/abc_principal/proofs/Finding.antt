@@ -7,9 +7,8 @@ use Rattle.abc_num.specs.Text.{text_eq}
 use Rattle.abc_num.proofs.Texts.{text_eq-Decides}
 use Rattle.abc_num.specs.declared.types.Ground.{Ground}
 use Rattle.abc_terms.specs.declared.term.VarId.{VarId}
-use Rattle.abc_demand.specs.Typings.{var_of, Agree}
-use Rattle.abc_demand.specs.inner.Named.{TargetsMade}
-use Rattle.abc_principal.specs.inner.Grouped.{Targets}
+use Rattle.abc_demand.specs.Typings.{var_of, Agree, TargetsMade}
+use Rattle.abc_principal.specs.Calls.{Targets}
 
 text_same : (s t : List ℕ) → text_eq s t ≡ true → s ≡ t
 text_same s t e = (text_eq-Decides s t).0 e

@@ -15,12 +15,12 @@ use Rattle.abc_ground.specs.Groups.{Cut}
 use Rattle.abc_ground.specs.Items.{UnitFits}
 use Rattle.abc_demand.specs.declared.env.Env.{Env}
 use Rattle.abc_demand.specs.declared.env.Signature.{Signature as SignatureVars}
-use Rattle.abc_demand.specs.Typings.{signature_of, signatures_of, var_of, Agree, SignatureMade}
+use Rattle.abc_demand.specs.Typings.{signature_of, signatures_of, var_of, Agree, SignatureMade, TargetsMade}
 use Rattle.abc_demand.specs.Demanded.{UnitTyped, IsDemanded, AreGiven, IsRefused}
-use Rattle.abc_demand.specs.inner.Named.{TargetsMade}
 use Rattle.abc_demand.proofs.Alike.{signature_alike}
 use Rattle.abc_principal.specs.Exact.{Known}
-use Rattle.abc_principal.specs.inner.Grouped.{Targets, Each, MemberFits, FitsWith, AreCalls, NoCalls, IsAsked, AreFitted, NoneFits, take_one}
+use Rattle.abc_principal.specs.inner.Grouped.{Each, MemberFits, FitsWith, IsAsked, AreFitted, NoneFits, take_one}
+use Rattle.abc_principal.specs.Calls.{Targets, AreCalls, NoCalls}
 use Rattle.abc_principal.proofs.Cutting.{one_found}
 use Rattle.abc_principal.proofs.Named.{given_none}
 use Rattle.abc_principal.proofs.Asked.{owns_alike, given_both, agree_before, targets_more}

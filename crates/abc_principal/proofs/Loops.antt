@@ -1,18 +1,19 @@
 -- What the loops over calls and over new variables keep, and elements of lists that are mapped.
 use Rattle.std.proofs.Common.{◌≡◌, ◌∙◌, refl, ap, sym, subst, ℕ, zero, suc, ◌+◌, ◌<◌, ◌≤◌, List, [], ◌∷◌, ◌++◌, length, take, drop, get_or, map, arith}
-use Rattle.std.specs.Prelude.{Option, None, Some, Bool, true, false, if◌then◌else◌}
+use Rattle.std.specs.Prelude.{Option, Some, Bool, true, false, if◌then◌else◌}
 use Rattle.std.proofs.lemmas.List.{length-append}
 use Rattle.abc_terms.specs.declared.term.VarId.{VarId}
 use Rattle.abc_unify.specs.Graphs.{Seen, with_variable}
 use Rattle.abc_tree.specs.declared.templates.Template.{Template}
 use Rattle.abc_ground.specs.Groups.{Cut}
 use Rattle.abc_demand.specs.declared.env.Signature.{Signature as SignatureVars}
-use Rattle.abc_demand.specs.inner.Named.{TargetsMade}
-use Rattle.abc_scheme.specs.inner.Copies.{IsLater}
+use Rattle.abc_demand.specs.Typings.{TargetsMade}
+use Rattle.abc_scheme.specs.Later.{IsLater}
 use Rattle.abc_scheme.proofs.Later.{later_same}
 use Rattle.abc_principal.specs.declared.member.Member.{Member}
 use Rattle.abc_principal.specs.Exact.{Known, cuts_of}
-use Rattle.abc_principal.specs.inner.Grouped.{Targets, is_called, own_of, AreFresh, AreCalls}
+use Rattle.abc_principal.specs.inner.Grouped.{AreFresh}
+use Rattle.abc_principal.specs.Calls.{Targets, is_called, own_of, AreCalls}
 use Rattle.abc_principal.proofs.Asked.{calls_none}
 use Rattle.abc_principal.proofs.Freshness.{fresh_next}
 use Rattle.abc_principal.proofs.Named.{behind_none}
@@ -43,17 +44,6 @@ search_found t [] xs i c x lt long is x_is call = absurd (omega (arith, lt))
 search_found t (d ∷ cs) [] i c x lt long is x_is call = absurd (omega (arith, long))
 search_found t (d ∷ cs) (y ∷ xs) zero c x lt long is x_is call = ap Some x_is ∙ ap (λ b. if b then Some y else own_of t cs xs) (sym (ap (is_called t) (sym is) ∙ call))
 search_found t (d ∷ cs) (y ∷ xs) (suc i) c x lt long is x_is call = search_found t cs xs i c x (omega (arith, lt)) (omega (arith, long)) is x_is call
-
-none_behind : (X : Type 0) (t : Template) (ds : List Cut) → own_of {X = X} t ds [] ≡ None
-none_behind X t [] = refl
-none_behind X t (c ∷ ds) = refl
-
-pub search_none : {X : Type 0} (t : Template) (cs : List Cut) (xs : List X) (i : ℕ) → length cs ≤ i → own_of t (drop i cs) (drop i xs) ≡ None
-search_none t [] xs zero le = refl
-search_none t [] xs (suc i) le = refl
-search_none t (d ∷ cs) xs zero le = absurd (omega (arith, le))
-search_none {X = X} t (d ∷ cs) [] (suc i) le = none_behind X t (drop i cs)
-search_none t (d ∷ cs) (y ∷ xs) (suc i) le = search_none t cs xs i (omega (arith, le))
 
 -- ---- loops
 

@@ -9,12 +9,11 @@ use Rattle.abc_terms.specs.Nodes.{AreIn}
 use Rattle.abc_unify.specs.Graphs.{Seen, with_variable}
 use Rattle.abc_unify.specs.Outer.{types}
 use Rattle.abc_unify.proofs.Among.{are_in_more}
-use Rattle.abc_demand.specs.Typings.{var_of, Agree}
+use Rattle.abc_demand.specs.Typings.{var_of, Agree, TargetsMade}
 use Rattle.abc_demand.specs.Demanded.{AreGiven}
-use Rattle.abc_demand.specs.inner.Named.{TargetsMade}
 use Rattle.abc_scheme.proofs.Later.{later_same, later_then, later_fresh}
-use Rattle.abc_principal.specs.inner.Naming.{AreNamed}
-use Rattle.abc_principal.specs.inner.Grouped.{Targets}
+use Rattle.abc_principal.specs.TargetVars.{AreNamed}
+use Rattle.abc_principal.specs.Calls.{Targets}
 use Rattle.abc_principal.proofs.Finding.{found_made, agree_kept, none_before, agree_fewer, found_new, with_type, with_type_low, with_type_at, agree_new}
 
 pub given_none : (n m : ℕ) (before : Targets) → AreGiven n m before before

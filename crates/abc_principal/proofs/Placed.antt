@@ -17,8 +17,8 @@ use Rattle.abc_demand.specs.Typings.{signature_of, type_of, var_of, Agree, AreMa
 use Rattle.abc_scheme.specs.Schemes.{StandsFor, IsCopied, CannotBeCopied}
 use Rattle.abc_principal.specs.declared.principal.Principal.{Principal}
 use Rattle.abc_principal.specs.Principals.{if_any, signature_types, variables, IsInstance, HasNone}
-use Rattle.abc_principal.specs.inner.Naming.{AreNamed}
-use Rattle.abc_principal.specs.inner.Grouped.{Targets}
+use Rattle.abc_principal.specs.TargetVars.{AreNamed}
+use Rattle.abc_principal.specs.Calls.{Targets}
 use Rattle.abc_principal.proofs.Finding.{agree_kept}
 
 -- the types of the variables of a signature

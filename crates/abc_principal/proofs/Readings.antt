@@ -15,12 +15,12 @@ use Rattle.abc_unify.specs.Outer.{types}
 use Rattle.abc_ground.specs.Fits.{Signature}
 use Rattle.abc_ground.specs.Groups.{Cut, template_of}
 use Rattle.abc_demand.specs.declared.env.Signature.{Signature as SignatureVars}
-use Rattle.abc_demand.specs.Typings.{signature_of, var_of, Agree, AreMade, IsMade, SignatureMade}
-use Rattle.abc_demand.specs.inner.Named.{TargetsMade}
+use Rattle.abc_demand.specs.Typings.{signature_of, var_of, Agree, AreMade, IsMade, SignatureMade, TargetsMade}
 use Rattle.abc_scheme.specs.Schemes.{MayHave, StandsFor, IsInside}
 use Rattle.abc_principal.specs.declared.principal.Principal.{Principal}
 use Rattle.abc_principal.specs.Principals.{if_any, signature_types, variables, results, Has}
-use Rattle.abc_principal.specs.inner.Grouped.{Targets, AreVarsOf, IsRead, AreRead}
+use Rattle.abc_principal.specs.inner.Grouped.{AreVarsOf, IsRead, AreRead}
+use Rattle.abc_principal.specs.Calls.{Targets}
 use Rattle.abc_principal.proofs.Cutting.{some_of, not_none}
 use Rattle.abc_principal.proofs.Finding.{found_made}
 use Rattle.abc_principal.proofs.Placed.{types_of_signature, gives_same, parted, same_signature}

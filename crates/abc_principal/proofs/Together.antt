@@ -13,7 +13,8 @@ use Rattle.abc_ground.specs.Typable.{IsProperSignature, IsUsed, FitsAt, MayWithi
 use Rattle.abc_principal.specs.declared.principal.Principal.{Principal}
 use Rattle.abc_principal.specs.Principals.{Has}
 use Rattle.abc_principal.specs.Exact.{Known, known_of, AreProper, IsPrincipal, IsGroup, KnowsCalls}
-use Rattle.abc_principal.specs.inner.Grouped.{own_of, Each, IsCall, IsKnownCall, MayCall, MemberFits}
+use Rattle.abc_principal.specs.inner.Grouped.{Each, MemberFits}
+use Rattle.abc_principal.specs.Calls.{own_of, IsCall, IsKnownCall, MayCall}
 use Rattle.abc_principal.proofs.Cutting.{some_of, is_there, not_none, first, behind, cut_same, found_text, together_then, together_text, own_found, own_made, own_there, each_long, each_made, each_own}
 use Rattle.abc_principal.proofs.Levels.{Listed, listed_as, allowed_more, within_upto, proper_within}
 

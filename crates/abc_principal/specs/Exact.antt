@@ -39,6 +39,10 @@ cuts_of members = map cut_in members
 abbrev pub AreProper : (List ℕ → Ground) → Type 0
 AreProper targets = (name : List ℕ) → IsProper (targets name)
 
+-- all types of variables are proper
+abbrev pub AllProper : (ℕ → Ground) → Type 0
+AllProper v = (a : ℕ) → IsProper (v a)
+
 -- The principal says exactly which signatures the unit with this template may have in w, whatever types the targets have.
 pub record IsPrincipal (w : List Cut) (t : Template) (p : Principal) : Type 0 where
   pub whole : IsWhole p

@@ -6,9 +6,8 @@ use Rattle.abc_terms.specs.Demands.{MeetsAll}
 use Rattle.abc_unify.specs.Graphs.{Seen}
 use Rattle.abc_ground.specs.Fits.{Signature}
 use Rattle.abc_demand.specs.declared.env.Signature.{Signature as SignatureVars}
-use Rattle.abc_demand.specs.Typings.{signature_of, Agree, SignatureMade}
+use Rattle.abc_demand.specs.Typings.{signature_of, Agree, SignatureMade, TargetsMade}
 use Rattle.abc_demand.specs.Demanded.{AreGiven}
-use Rattle.abc_demand.specs.inner.Named.{TargetsMade}
 use Rattle.abc_scheme.specs.Schemes.{StandsFor, IsInside}
 use Rattle.abc_principal.specs.declared.principal.Principal.{Principal}
 

@@ -1,3 +1,2 @@
--- What the code keeps on the way.
+-- What the code keeps on the way, in words that no public clause uses.
 pub mod Grouped
-pub mod Naming

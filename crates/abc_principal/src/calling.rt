@@ -2,11 +2,10 @@
 ghost use Rattle.std.specs.Prelude.{◌≡◌, ◌∷◌, ◌++◌, [], ℕ, List, length, Err, IfOk, option_map};
 ghost use Rattle.std.specs.List.{All};
 ghost use Rattle.abc_terms.specs.declared.term.VarId.{VarId as TheVar};
-ghost use Rattle.abc_scheme.specs.inner.Copies.{IsLater};
-ghost use Rattle.abc_demand.specs.Typings.{SignatureMade};
-ghost use Rattle.abc_demand.specs.inner.Named.{TargetsMade};
+ghost use Rattle.abc_scheme.specs.Later.{IsLater};
+ghost use Rattle.abc_demand.specs.Typings.{SignatureMade, TargetsMade};
 ghost use Rattle.abc_principal.specs.Exact.{cuts_of};
-ghost use Rattle.abc_principal.specs.inner.Grouped.{own_of, AreCalls, NoCalls};
+ghost use Rattle.abc_principal.specs.Calls.{own_of, AreCalls, NoCalls};
 
 use crate::known::Principals;
 use crate::member::Member;

@@ -1,9 +1,8 @@
 //! What is asked so that the members of a group fit together.
-ghost use Rattle.std.specs.Prelude.{◌≡◌, ◌<◌, ◌+◌, length, take, drop, Err, OnOk};
+ghost use Rattle.std.specs.Prelude.{◌≡◌, ◌<◌, length, Err, OnOk};
 ghost use Rattle.std.specs.List.{All};
-ghost use Rattle.abc_demand.specs.Typings.{SignatureMade, CallMade};
+ghost use Rattle.abc_demand.specs.Typings.{SignatureMade, CallMade, TargetsMade};
 ghost use Rattle.abc_demand.specs.Demanded.{IsRefused};
-ghost use Rattle.abc_demand.specs.inner.Named.{TargetsMade};
 ghost use Rattle.abc_principal.specs.Exact.{cut_in, cuts_of};
 ghost use Rattle.abc_principal.specs.inner.Grouped.{AreFitted, NoneFits, IsAsked, FitsWith, take_one};
 

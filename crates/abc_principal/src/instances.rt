@@ -1,8 +1,8 @@
 //! Instances of principal signatures.
-ghost use Rattle.std.specs.Prelude.{◌≡◌, ◌+◌, ◌++◌, ℕ, List, length, Err, IfOk, OnErr, is_some};
+ghost use Rattle.std.specs.Prelude.{◌≡◌, ◌+◌, ◌++◌, ℕ, List, length, Err, IfOk, is_some};
 ghost use Rattle.abc_terms.specs.declared.term.VarId.{VarId as TheVar};
-ghost use Rattle.abc_scheme.specs.inner.Copies.{IsLater};
-ghost use Rattle.abc_demand.specs.inner.Named.{TargetsMade};
+ghost use Rattle.abc_scheme.specs.Later.{IsLater};
+ghost use Rattle.abc_demand.specs.Typings.{TargetsMade};
 ghost use Rattle.abc_principal.specs.Principals.{IsWhole, IsInstance, HasNone, results, variables};
 
 use crate::naming::target_vars;

@@ -1,7 +1,7 @@
 //! A unit of a group.
 ghost use Rattle.std.specs.Prelude.{◌≡◌};
 ghost use Rattle.abc_principal.specs.Exact.{cut_in};
-ghost use Rattle.abc_principal.specs.inner.Grouped.{is_called};
+ghost use Rattle.abc_principal.specs.Calls.{is_called};
 
 use abc_tree::{Template, Unit};
 use std::cmp::Ordering;

@@ -1,9 +1,9 @@
 //! Variables for targets.
-ghost use Rattle.std.specs.Prelude.{◌≡◌, ◌∷◌, ◌++◌, ℕ, List, [], map, IfOk};
+ghost use Rattle.std.specs.Prelude.{◌≡◌, ◌∷◌, ◌++◌, ℕ, List, [], IfOk};
 ghost use Rattle.abc_terms.specs.declared.term.VarId.{VarId as TheVar};
-ghost use Rattle.abc_scheme.specs.inner.Copies.{IsLater};
-ghost use Rattle.abc_demand.specs.inner.Named.{TargetsMade};
-ghost use Rattle.abc_principal.specs.inner.Naming.{AreNamed};
+ghost use Rattle.abc_scheme.specs.Later.{IsLater};
+ghost use Rattle.abc_demand.specs.Typings.{TargetsMade};
+ghost use Rattle.abc_principal.specs.TargetVars.{AreNamed};
 
 use abc_demand::TargetVars;
 use abc_num::{OutOfMemory, Text};

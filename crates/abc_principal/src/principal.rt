@@ -1,7 +1,7 @@
 //! What is kept of a unit: the signatures that it may have.
 ghost use Rattle.std.specs.Prelude.{◌≡◌, Err, IfOk, OnErr};
-ghost use Rattle.abc_scheme.specs.inner.Copies.{IsLater};
-ghost use Rattle.abc_demand.specs.inner.Named.{TargetsMade};
+ghost use Rattle.abc_scheme.specs.Later.{IsLater};
+ghost use Rattle.abc_demand.specs.Typings.{TargetsMade};
 ghost use Rattle.abc_principal.specs.Principals.{IsWhole, IsInstance, HasNone};
 
 use crate::instances::place;

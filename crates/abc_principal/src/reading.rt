@@ -1,8 +1,7 @@
 //! Principals that are read from a graph.
 ghost use Rattle.std.specs.Prelude.{◌≡◌, ◌++◌, length, map, IfOk, OnOk, IsSome};
 ghost use Rattle.std.specs.List.{All};
-ghost use Rattle.abc_demand.specs.Typings.{var_of, SignatureMade};
-ghost use Rattle.abc_demand.specs.inner.Named.{TargetsMade};
+ghost use Rattle.abc_demand.specs.Typings.{var_of, SignatureMade, TargetsMade};
 ghost use Rattle.abc_principal.specs.Exact.{cut_in, cuts_of};
 ghost use Rattle.abc_principal.specs.Principals.{variables};
 ghost use Rattle.abc_principal.specs.inner.Grouped.{AreVarsOf, IsRead, AreRead};

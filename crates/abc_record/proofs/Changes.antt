@@ -18,7 +18,8 @@ use Rattle.abc_record.specs.declared.change.Change.TheVariants.{SetTarget, DropT
 use Rattle.abc_record.specs.Bytes.{in_four, spelled_text}
 use Rattle.abc_record.specs.Spelling.{spelled_value, spelled_line, spelled_change}
 use Rattle.abc_record.specs.Kept.{IsKeptName, IsFlush, IsKeptLine, AreKeptLines, IsKept}
-use Rattle.abc_record.specs.inner.Reading.{◌>>=◌, only, four_of, counted_of, text_of, goes_on_with, is_tail, is_name, is_kept_name, name_of, is_flush, is_kept_line, line_of, times, are_so_many, lines_of, value_of, most_levels, target_of, dropped_target_of, unit_of, dropped_unit_of, tagged_change, change_of}
+use Rattle.abc_record.specs.inner.Reading.{◌>>=◌, only, four_of, counted_of, text_of, name_of, line_of, times, are_so_many, lines_of, value_of, most_levels, target_of, dropped_target_of, unit_of, dropped_unit_of, tagged_change, change_of}
+use Rattle.abc_record.specs.KeptTests.{goes_on_with, is_tail, is_name, is_kept_name, is_flush, is_kept_line}
 use Rattle.abc_record.proofs.Fields.{IsBytes, IsBytes-rest, bind_some, some_is, Takes, Takes-then, Takes-tag, Reads, four_reads, counted_reads, only_reads, times_takes, times_again}
 use Rattle.abc_record.proofs.Trees.{IsLow, text_reads, value_reads}
 

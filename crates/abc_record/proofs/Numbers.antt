@@ -8,7 +8,7 @@ use Rattle.std.proofs.lemmas.Bool.{ltb-false, le-ltb}
 use Rattle.std.proofs.lemmas.Bool.Decides.{nat_tests}
 use Rattle.std.proofs.lemmas.Int.{of_z-to_z, to_z-of_z, fits_signed_from_abs}
 use Rattle.std.proofs.lemmas.Nat.{div-add-mod', div-mul-add, mod-mul-add}
-use Rattle.abc_num.specs.Number.{Fraction, fraction, whole_number, IsNumber, IsProper}
+use Rattle.abc_num.specs.Number.{Fraction, whole_number, IsNumber, IsProper}
 use Rattle.abc_num.specs.Ratio.{IsRatio, ratio}
 use Rattle.abc_num.specs.declared.number.NumFault.{NumFault}
 use Rattle.abc_num.proofs.Computed.{ratio_is, is_ratio}

@@ -9,7 +9,7 @@ use Rattle.std.proofs.lemmas.Option.{slice_get_within, slice_get_past, slice_get
 use Rattle.abc_num.specs.declared.limits.TheConstants.{MOST_ELEMENTS}
 use Rattle.abc_value.specs.declared.value.Kind.TheVariants as kind
 use Rattle.abc_value.specs.Tree.{Tree, Trees, number, text, compound, list, table, no_trees, more, listed, listed_pairs}
-use Rattle.abc_value.specs.Parts.{kind_of, codes_of, parts_of, pairs_of, keys_of}
+use Rattle.abc_value.specs.Parts.{kind_of, parts_of, pairs_of, keys_of}
 use Rattle.abc_value.specs.Sizes.{count, length_of}
 use Rattle.abc_value.specs.Regular.{IsRegular}
 use Rattle.abc_record.specs.Bytes.{in_four}
@@ -26,14 +26,6 @@ regular_length (text b) h = h.0.0
 regular_length (compound ts) h = h.0.0
 regular_length (list ts) h = h.0.0
 regular_length (table ps) h = h.0.0
-
-pub text_length : (t : Tree) → kind_of t ≡ kind.Text → length_of t ≡ length (codes_of t)
-text_length (number n) e = absurd cc
-text_length (text b) e = refl
-text_length (compound ts) e = absurd cc
-text_length (list no_trees) e = absurd cc
-text_length (list (more t ts)) e = absurd cc
-text_length (table ps) e = absurd cc
 
 pub compound_length : (t : Tree) → kind_of t ≡ kind.Compound → length_of t ≡ length (parts_of t)
 compound_length (number n) e = absurd cc

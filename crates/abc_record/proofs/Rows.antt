@@ -6,7 +6,8 @@ use Rattle.abc_value.specs.Tree.{number, text, compound, table, no_pairs, pair, 
 use Rattle.abc_record.specs.declared.change.Change.TheVariants.{SetTarget, DropTarget, SetUnit, DropUnit}
 use Rattle.abc_record.specs.Bytes.{in_four, in_eight, in_sixteen, spelled_text}
 use Rattle.abc_record.specs.Spelling.{spelled_number, spelled_value, spelled_change, spelled}
-use Rattle.abc_record.specs.inner.Reading.{is_kept_name, is_kept_line, are_so_many, whole_of_bits, is_name, is_tail}
+use Rattle.abc_record.specs.inner.Reading.{are_so_many, whole_of_bits}
+use Rattle.abc_record.specs.KeptTests.{is_kept_name, is_kept_line, is_name, is_tail}
 
 minus_one : spelled_value (number (whole_number (negsuc 0))) ≡ 0 ∷ replicate 16 255
 unfolding spelled_number in_sixteen in_eight

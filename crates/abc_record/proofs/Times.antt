@@ -13,10 +13,6 @@ regroup : {A : Type 0} (front : List A) (n : A) (read : Found (List A)) → with
 regroup {A} front n (Some x) = ap (λ (ns : List A). Some (ns, x.1)) (simp append_assoc)
 regroup front n None = refl
 
-pub starts : {A : Type 0} (total : Found (List A)) → with_front [] total ≡ total
-starts (Some x) = refl
-starts None = refl
-
 pub goes_on : {A : Type 0} (one : List ℕ → Found A) (front : List A) (count i : ℕ) (bytes : List ℕ) (n : A) (after : List ℕ) (total : Found (List A)) → i < count → one bytes ≡ Some (n, after)
     → with_front front (times one (count - i) bytes) ≡ total → with_front (front ++ n ∷ []) (times one (count - (i + 1)) after) ≡ total
 unfolding times

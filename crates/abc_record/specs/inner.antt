@@ -1,3 +1,3 @@
--- Definitions that are steps of the code.
+-- Steps of the code, in words that no public clause uses.
 pub mod Reading
 pub mod Writing

@@ -1,5 +1,5 @@
 //! Numbers and texts at the front of some bytes. None of this takes memory.
-ghost use Rattle.std.specs.Prelude.{◌≡◌, length};
+ghost use Rattle.std.specs.Prelude.{◌≡◌};
 ghost use Rattle.std.specs.Option.{option_map};
 ghost use Rattle.abc_num.specs.Characters.{are_characters};
 ghost use Rattle.abc_record.specs.inner.Reading.{four_of, eight_of, counted_of, text_of};

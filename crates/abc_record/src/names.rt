@@ -4,7 +4,8 @@ ghost use Rattle.abc_record.specs.Kept.{IsKeptName};
 ghost use Rattle.std.specs.Option.{option_map};
 ghost use Rattle.abc_tokens.specs.Bytes.{is_small, begins};
 ghost use Rattle.abc_tokens.specs.Words.{goes_on};
-ghost use Rattle.abc_record.specs.inner.Reading.{goes_on_with, is_tail, is_name, is_kept_name, name_of};
+ghost use Rattle.abc_record.specs.inner.Reading.{name_of};
+ghost use Rattle.abc_record.specs.KeptTests.{goes_on_with, is_tail, is_name, is_kept_name};
 
 use crate::bytes::counted_of;
 use abc_num::limits::MOST_LINE_BYTES;
@@ -35,7 +36,7 @@ pub fn is_kept_name(bytes: &[u8]) -> bool
 /// ```text
 /// name = small { [.] more }        more = small | digit | " | '
 /// ```
-#[tactic(auto, unfolding(crate::specs::inner::Reading::is_name))]
+#[tactic(auto, unfolding(crate::specs::KeptTests::is_name))]
 fn is_name(bytes: &[u8]) -> bool
     ensures { result ≡ is_name bytes.now }
 {
@@ -46,7 +47,7 @@ fn is_name(bytes: &[u8]) -> bool
 }
 
 /// The rest of a name.
-#[tactic(auto, unfolding(crate::specs::inner::Reading::is_tail))]
+#[tactic(auto, unfolding(crate::specs::KeptTests::is_tail))]
 fn is_tail(bytes: &[u8]) -> bool
     ensures { result ≡ is_tail bytes.now }
 {

@@ -4,7 +4,8 @@ ghost use Rattle.abc_num.specs.declared.lines.Line.{Line};
 ghost use Rattle.abc_record.specs.declared.change.Change.{Change};
 ghost use Rattle.abc_record.specs.Kept.{IsSpelling};
 ghost use Rattle.abc_record.specs.Place.{IsWrongAt};
-ghost use Rattle.abc_record.specs.inner.Reading.{Gives, times, are_so_many, is_flush, is_kept_line, line_of, lines_of, target_of, dropped_target_of, unit_of, dropped_unit_of, tagged_change, change_of, leading};
+ghost use Rattle.abc_record.specs.inner.Reading.{Gives, times, are_so_many, line_of, lines_of, target_of, dropped_target_of, unit_of, dropped_unit_of, tagged_change, change_of, leading};
+ghost use Rattle.abc_record.specs.KeptTests.{is_flush, is_kept_line};
 
 use crate::bytes::{are_characters, counted_of, four_of, text_of};
 use crate::faults::ReadFault;

@@ -1,7 +1,5 @@
 //! Values at the front of some bytes.
 ghost use Rattle.std.specs.Prelude.{◌≡◌, IfOk, true};
-ghost use Rattle.std.specs.Option.{option_map};
-ghost use Rattle.std.specs.Int.{w64, w128};
 ghost use Rattle.abc_value.specs.Tree.{Tree};
 ghost use Rattle.std.specs.Ordering.{is_lt};
 ghost use Rattle.abc_value.specs.Order.{order};

@@ -1,7 +1,7 @@
 //! Changes as bytes.
 ghost use Rattle.std.specs.Prelude.{◌≡◌, ◌≢◌, ◌<◌, ◌^◌, ◌++◌, ◌∷◌, length, OnOk, IfOk};
 ghost use Rattle.std.specs.List.{flat_map};
-ghost use Rattle.std.specs.Int.{w64, cast_unsigned};
+ghost use Rattle.std.specs.Int.{cast_unsigned};
 ghost use Rattle.abc_value.specs.Parts.{kind_of, codes_of, parts_of, pairs_of};
 ghost use Rattle.abc_value.specs.Sizes.{length_of};
 ghost use Rattle.abc_record.specs.Bytes.{in_four, in_eight, in_sixteen, spelled_text};

@@ -2,7 +2,7 @@
 use Rattle.std.proofs.Common.{◌≡◌, ◌∙◌, ℕ, zero, suc, ◌+◌, ◌-◌, ◌<◌, ◌≤◌, List, [], ◌∷◌, ◌++◌, length, get_or, take, drop, cond, map, ap, sym, subst, refl, append_assoc, arith}
 use Rattle.std.specs.Prelude.{nat_lt}
 use Rattle.std.specs.List.{All}
-use Rattle.std.proofs.lemmas.List.{length-append, length-map, map-append, take-append-drop}
+use Rattle.std.proofs.lemmas.List.{length-map, map-append, take-append-drop}
 use Rattle.std.proofs.lemmas.List.Elements.{All-nil, All-cons, All-head, All-tail, All-append}
 use Rattle.std.proofs.lemmas.Bool.Decides.{nat_tests}
 use Rattle.abc_num.specs.declared.types.Ground.{Ground}
@@ -209,11 +209,3 @@ module _ (s : Scheme) (inside : IsInside s) (old mid : Seen) (table given own : 
   refused never v ts m stands =
       let r : (w : ℕ → Ground) × ((i : ℕ) → i < old.count → w i ≡ v i) × (types w own ≡ ts) × MeetsAll w (mid.demands ++ asked) = copy_to v ts m stands in
       never r.0 r.3
-
-  pub sizes : length given + length own ≡ length s.own
-  sizes =
-      let a : length own ≡ length rest = ap length own_is ∙ length-map rest (λ (x : VarId). variable (place x.0)) in
-      let b : length (first ++ rest) ≡ length s.own = ap length (take-append-drop (length given) s.own) in
-      let c : length (first ++ rest) ≡ length first + length rest = length-append first rest in
-      let d : length (placed_vars place first) ≡ length first = length-map first (λ (x : VarId). variable (place x.0)) in
-      omega (arith, a, b, c, d, same_count)

@@ -39,9 +39,6 @@ agree_at v w all agree x known = subst (λ n. v n ≡ w n) known.2 (All-contains
 
 module _ (n : ℕ) (demands : List Demand) (all : List Known) (table wanted : List VarId)
     (forms : AreForms n demands all) (solvable : HasSolution demands) (placed : ArePlaces (numbers all) table) (there : All (λ a. IsKnown all a.0) wanted) where
-  place : ℕ → ℕ
-  place = number_in table
-
   placed_at : (x : ℕ) → IsKnown all x → slice_get (numbers all) (number_in table x) ≡ Some x
   placed_at x known =
       let stands : (i : ℕ) × (i < length (numbers all)) × (slice_get (numbers all) i ≡ Some x) = known_place all x known in

@@ -8,7 +8,8 @@ use Rattle.abc_terms.specs.declared.demand.Demand.{Demand}
 use Rattle.abc_terms.specs.Renamed.{variable, number_in}
 use Rattle.abc_unify.specs.Graphs.{Seen, held, back_at, with_variable, with_demands}
 use Rattle.abc_unify.proofs.Backward.{back_now, back_more}
-use Rattle.abc_scheme.specs.inner.Copies.{IsLater, AreMadeBehind}
+use Rattle.abc_scheme.specs.inner.Copies.{AreMadeBehind}
+use Rattle.abc_scheme.specs.Later.{IsLater}
 
 pub later_same : (s : Seen) → IsLater s s
 later_same s m le = (le, refl)
@@ -38,9 +39,6 @@ pub back_first : (s t u : Seen) (m : ℕ) → m ≡ length s.past → IsLater s 
 back_first s t u m e later is =
     let le : m ≤ length s.past = omega (arith, e) in
     is ∙ ((later m le).1 ∙ sym (back_now s m e))
-
-pub made_none : (s : Seen) → AreMadeBehind s s []
-made_none s = record { counted = omega arith; asked = refl; numbered = λ i lt. absurd (omega (arith, lt)); later = later_same s }
 
 pub made_more : (old now next : Seen) (vars : List VarId) (a : VarId) → AreMadeBehind old now vars → a.0 ≡ now.count → next ≡ with_variable now → AreMadeBehind old next (vars ++ a ∷ [])
 made_more old now next vars a made number is =

@@ -1,28 +1,14 @@
 -- A table of places, written one after the other.
-use Rattle.std.proofs.Common.{◌≡◌, ◌∙◌, ℕ, zero, suc, ◌+◌, ◌<◌, ◌≤◌, ◌⊎◌, inl, inr, List, [], ◌∷◌, length, get_or, set, replicate, ap, sym, refl, arith}
+use Rattle.std.proofs.Common.{◌≡◌, ◌∙◌, ℕ, zero, suc, ◌+◌, ◌<◌, ◌⊎◌, inl, inr, List, [], ◌∷◌, length, get_or, set, ap, sym, refl, arith}
 use Rattle.std.specs.Prelude.{Some, slice_get}
-use Rattle.std.proofs.lemmas.List.{get_or-set_same, get_or-set_other, get_or-replicate, length-map, length-replicate, get_or-map}
-use Rattle.std.proofs.Math.ListN.{get_or-eq_default}
+use Rattle.std.proofs.lemmas.List.{get_or-set_same, get_or-set_other, length-map, get_or-map}
 use Rattle.std.proofs.lemmas.Option.{slice_get-get_or, slice_get_within, same_Some}
-use Rattle.std.proofs.lemmas.Bool.{cases_eq, cases_lt}
+use Rattle.std.proofs.lemmas.Bool.{cases_eq}
 use Rattle.abc_terms.specs.declared.term.VarId.{VarId}
 use Rattle.abc_terms.specs.Renamed.{variable, number_in}
 use Rattle.abc_unify.specs.declared.forms.Known.{Known}
 use Rattle.abc_unify.specs.Forms.{IsKnown}
 use Rattle.abc_scheme.specs.inner.Places.{numbers, PlacedUpto}
-
-zeros : (n x : ℕ) → number_in (replicate n (variable 0)) x ≡ 0
-zeros n x = by_order (cases_lt x n)
-  where
-    by_order : (x < n) ⊎ (n ≤ x) → number_in (replicate n (variable 0)) x ≡ 0
-    by_order (inl lt) = ap (λ (a : VarId). a.0) (get_or-replicate n x (variable 0) (variable 0) lt)
-    by_order (inr le) = ap (λ (a : VarId). a.0) (get_or-eq_default (replicate n (variable 0)) (variable 0) {n = x} (rw length-replicate le))
-
-pub placed_first : (known : List ℕ) (n : ℕ) → PlacedUpto known 0 (replicate n (variable 0))
-placed_first known n = record {
-  at_place = λ i x lt is. absurd (omega (arith, lt));
-  within = λ some x. rw (zeros n x) some;
-}
 
 -- the place of x is written where x stands
 pub placed_next : (known : List ℕ) (k : ℕ) (table : List VarId) (x : ℕ) (a : VarId) → slice_get known k ≡ Some x → x < length table → a.0 ≡ k → PlacedUpto known k table → PlacedUpto known (k + 1) (set table x a)

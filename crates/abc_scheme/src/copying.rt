@@ -1,11 +1,11 @@
 //! Copies of schemes in a graph.
 ghost use Rattle.std.specs.Prelude.{◌≡◌, ◌+◌, ◌≤◌, ◌++◌, length, map, take, drop, Err, IfOk, OnOk};
-ghost use Rattle.std.specs.List.{All};
-ghost use Rattle.abc_terms.specs.Nodes.{AreIn, DemandIn};
+ghost use Rattle.abc_terms.specs.Nodes.{AreIn};
 ghost use Rattle.abc_terms.specs.Renamed.{renamed, number_in};
 ghost use Rattle.abc_scheme.specs.Schemes.{IsInside, IsCopied, CannotBeCopied};
 ghost use Rattle.abc_scheme.specs.inner.Places.{placed_vars};
-ghost use Rattle.abc_scheme.specs.inner.Copies.{AreMadeBehind, equals, IsLater};
+ghost use Rattle.abc_scheme.specs.inner.Copies.{AreMadeBehind, equals};
+ghost use Rattle.abc_scheme.specs.Later.{IsLater};
 
 use crate::renaming::{renamed_demands, renamed_vars};
 use crate::scheme::Scheme;

@@ -7,7 +7,7 @@ ghost use Rattle.abc_terms.specs.Nodes.{AreIn};
 ghost use Rattle.abc_unify.specs.Graphs.{HasSolution};
 ghost use Rattle.abc_unify.specs.Forms.{AreForms, IsKnown};
 ghost use Rattle.abc_scheme.specs.Schemes.{MayHave, StandsFor, IsInside, IsCopied, CannotBeCopied};
-ghost use Rattle.abc_scheme.specs.inner.Copies.{IsLater};
+ghost use Rattle.abc_scheme.specs.Later.{IsLater};
 
 use crate::copying::copy_behind;
 use crate::renaming::{places, renamed_demands, renamed_vars};

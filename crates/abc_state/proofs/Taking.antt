@@ -3,7 +3,7 @@ use Rattle.std.proofs.Common.{◌≡◌, ◌↔◌, Bool, List, Some, Result, Ok
 use Rattle.std.specs.Prelude.{IsTrue, IsSome, IsNone, IfOk}
 use Rattle.abc_num.specs.declared.memory.OutOfMemory.{OutOfMemory}
 use Rattle.abc_tree.specs.declared.operations.Op.{Op}
-use Rattle.abc_value.specs.Tree.{Tree, table}
+use Rattle.abc_value.specs.Tree.{Tree}
 use Rattle.abc_value.specs.Parts.{IsTable}
 use Rattle.abc_value.specs.Forms.{anything, form_of}
 use Rattle.abc_predef.specs.Signatures.{operands, result_of}

@@ -1,8 +1,8 @@
 //! What the actuals of the call of a command unit give: a value, and an address where the actual is one.
-ghost use Rattle.std.specs.Prelude.{◌≡◌, ℕ, Bool, List, Some, None, option_map, IfOk, if◌then◌else◌};
+ghost use Rattle.std.specs.Prelude.{◌≡◌, ℕ, Bool, List, Some, None, option_map, IfOk};
 ghost use Rattle.abc_num.specs.declared.lines.RawLine.{RawLine};
 ghost use Rattle.abc_meaning.specs.State.{place};
-ghost use Rattle.abc_state.specs.Views.{at, actual_of, address_of, scope_of, state_of};
+ghost use Rattle.abc_state.specs.Views.{actual_of, address_of, scope_of, state_of};
 ghost use Rattle.abc_state.specs.Words.{name_actual};
 
 use crate::looking::look;

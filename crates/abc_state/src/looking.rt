@@ -1,12 +1,12 @@
 //! Which names are targets, which are bound, and which are refinements; the values of names.
-ghost use Rattle.std.specs.Prelude.{◌≡◌, ℕ, Bool, List, Some, None, length, option_map, slice_set, true, IfOk, IfSome, OnOk};
+ghost use Rattle.std.specs.Prelude.{◌≡◌, ℕ, Bool, List, Some, None, option_map, slice_set, true, IfOk, IfSome, OnOk};
 ghost use Rattle.abc_value.specs.Tree.{Tree};
 ghost use Rattle.abc_frames.specs.Maps.{Targets as Store, value_of, with_state, with_value, without};
 ghost use Rattle.abc_num.specs.declared.lines.RawLine.{RawLine};
 ghost use Rattle.abc_tree.specs.RegularItems.{AreFlags, numbers};
 ghost use Rattle.abc_value.specs.declared.faults.RunFault.TheVariants.{NoValue};
 ghost use Rattle.abc_meaning.specs.State.{State};
-ghost use Rattle.abc_meaning.specs.Here.{Here, in_command, in_unit, line_in, target_at, is_bound, refinement_at, refinement_named, look, assign, assign_in};
+ghost use Rattle.abc_meaning.specs.Here.{in_command, in_unit, line_in, target_at, is_bound, refinement_at, refinement_named, look, assign, assign_in};
 ghost use Rattle.abc_meaning.specs.Value.{there};
 ghost use Rattle.abc_state.specs.Views.{at, scope_of, state_of};
 ghost use Rattle.abc_state.specs.Agrees.{Agrees};

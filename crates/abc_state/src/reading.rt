@@ -1,5 +1,5 @@
 //! Lines that READ takes, and the values that they spell.
-ghost use Rattle.std.specs.Prelude.{◌≡◌, ◌≤◌, ◌⊎◌, ℕ, Some, None, false, length, IfOk, IfErr, OnOk, IsErrOf};
+ghost use Rattle.std.specs.Prelude.{◌≡◌, ◌≤◌, ◌⊎◌, ℕ, Some, None, false, length, IfOk, IfErr, IsErrOf};
 ghost use Rattle.abc_value.specs.Forms.{form_of};
 ghost use Rattle.abc_print.specs.Computed.{literal_of};
 ghost use Rattle.abc_value.specs.declared.faults.RunFault.TheVariants.{Memory, BadInput};

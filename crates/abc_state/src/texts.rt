@@ -1,6 +1,6 @@
 //! Texts with conversions, piece by piece.
 ghost use Rattle.std.specs.Prelude.{◌≡◌, ◌++◌, ◌&&◌, [], ℕ, true, IfOk};
-ghost use Rattle.abc_num.specs.Characters.{are_characters, AreCharacters};
+ghost use Rattle.abc_num.specs.Characters.{are_characters};
 ghost use Rattle.abc_value.specs.Printed.{outer};
 ghost use Rattle.abc_meaning.specs.State.{State};
 ghost use Rattle.abc_meaning.specs.Here.{Here};

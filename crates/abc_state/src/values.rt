@@ -1,17 +1,14 @@
 //! What nodes make of the values of their operands.
-ghost use Rattle.std.specs.Prelude.{◌≡◌, ◌∷◌, ◌&&◌, [], ℕ, Some, None, option_map, is_some, is_none, nat_le, length, IsTrue, IfOk, IfErr};
+ghost use Rattle.std.specs.Prelude.{◌≡◌, ◌∷◌, ◌&&◌, [], ℕ, Some, None, is_some, IsTrue, IfOk};
 ghost use Rattle.abc_predef.specs.Takes.{GivesValue, IsTest};
 ghost use Rattle.abc_value.specs.Items.{HaveRange};
 ghost use Rattle.std.specs.List.{list_all};
-ghost use Rattle.abc_value.specs.declared.faults.RunFault.TheVariants.{NoValue, Memory};
-ghost use Rattle.abc_value.specs.Tree.{Tree};
+ghost use Rattle.abc_value.specs.declared.faults.RunFault.TheVariants.{NoValue};
 ghost use Rattle.abc_value.specs.Forms.{anything};
 ghost use Rattle.abc_value.specs.Parts.{IsTable};
-ghost use Rattle.abc_predef.specs.Signatures.{operands, result_of};
-ghost use Rattle.abc_predef.specs.Taken.{are_taken};
 ghost use Rattle.abc_meaning.specs.State.{State};
 ghost use Rattle.abc_meaning.specs.Here.{Here};
-ghost use Rattle.abc_meaning.specs.Fits.{has_type, fits_table, fits_list, gives_value, is_test, have_range};
+ghost use Rattle.abc_meaning.specs.Fits.{has_type, fits_table, gives_value, is_test, have_range};
 ghost use Rattle.abc_meaning.specs.Value.{there, composed, selected, applied_to_one, applied, range};
 ghost use Rattle.abc_meaning.specs.Holds.{compared};
 ghost use Rattle.abc_state.specs.Agrees.{Agrees};

@@ -18,8 +18,8 @@ use abc_call_steps::{
     see_actuals, see_fields, take_actual,
 };
 use abc_command_steps::{
-    choose, perform, perform_all, perform_at, take_action, take_spot, turn, turn_on, turns_over,
-    unless_left,
+    choose, perform, perform_all, perform_at, perform_rest, take_action, take_spot, turn, turn_on,
+    turns_over, unless_left,
 };
 use abc_expression_steps::{fill, fill_table, see, see_row, spell, take_value};
 use abc_frames::Targets;
@@ -197,7 +197,7 @@ fn take_reply<'a>(
             None => Err(Halt::Wrong),
         },
         Waiting::Action(place, frame) => match value_in(reply) {
-            Some(value) => take_action(alloc, place, frame, value, run),
+            Some(value) => take_action(alloc, scope, place, frame, value, run, targets),
             None => Err(Halt::Wrong),
         },
         Waiting::Truth(place, frame) => match truth_in(reply) {
@@ -251,10 +251,7 @@ fn take_exit<'a>(
             exit,
             Work(place, Job::TurnsOver(bound, suite, train)),
         )),
-        ForFlow::SuiteRest(suite, at) => Ok(unless_left(
-            exit,
-            Work(place, Job::PerformAll(suite, at)),
-        )),
+        ForFlow::SuiteRest(suite, at) => Ok(perform_rest(place, suite, at, exit)),
     }
 }
 

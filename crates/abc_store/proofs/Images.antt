@@ -81,9 +81,6 @@ come_to start ps ws make typed = (Ok ws, make, inl (typed, refl))
 pub untyped : (start : ℕ) (ps : List (List ℕ)) (ws : Workspace) → Make start empty ps (Ok ws) → (IsWellTyped ws → ⊥) → ComeTo start ps (Err start)
 untyped start ps ws make none = (Ok ws, make, inr (none, refl))
 
-pub nowhere : (start at : ℕ) (ps : List (List ℕ)) → Make start empty ps (Err at) → ComeTo start ps (Err at)
-nowhere start at ps make = (Err at, make, refl)
-
 -- from nothing
 pub from_nothing : (start : ℕ) (ws : Workspace) (ps : List (List ℕ)) (found : Result Workspace ℕ) → ws ≡ empty → Make start ws ps found → Make start empty ps found
 from_nothing start ws ps found e made = subst (λ (w : Workspace). Make start w ps found) e made

@@ -12,8 +12,8 @@ use Rattle.abc_store.specs.Workspace.{Workspace, checkpoint_of}
 use Rattle.abc_num.specs.declared.limits.TheConstants.{MOST_RECORD_BYTES}
 use Rattle.abc_record.specs.declared.change.Change.{Change}
 use Rattle.abc_record.specs.Spelling.{spelled}
-use Rattle.abc_store.specs.Commit.{Work, Refusal, too_large, store_full, kept_in, stored, work_after, IsDecided}
-use Rattle.abc_store.specs.inner.Steps.{IsNoFault, IsCheckpoint, IsMadeUp, TakesDue, commit_fault, fits, may_be_due}
+use Rattle.abc_store.specs.Commit.{Work, Refusal, too_large, store_full, kept_in, stored, work_after, IsDecided, commit_fault}
+use Rattle.abc_store.specs.inner.Steps.{IsNoFault, IsCheckpoint, IsMadeUp, TakesDue, fits, may_be_due}
 
 -- what holds after each answer but a fault
 pub unless_fault : {T : Type 0} (r : Result T AppendFault) (P : Type 0) → OnOk r P → (IsFull r → P) → (IsErrOf r Memory → ⊥) → IsNoFault r → P

@@ -33,15 +33,6 @@ found_by_text t (u ∷ units) = ap (λ (later : Option Routine). match_ordering 
 
 -- ---- how many there are
 
-few_left : (o : Ordering) (u : Routine) (units later : List Routine) → length later ≤ length units → length (match_ordering o (u ∷ later) units (u ∷ units)) ≤ suc (length units)
-few_left Less u units later few = omega (arith, few)
-few_left Equal u units later few = omega arith
-few_left Greater u units later few = omega arith
-
-pub without_few : (text : List ℕ) (units : List Routine) → length (without_named text units) ≤ length units
-without_few text [] = omega arith
-without_few text (u ∷ units) = few_left (text_cmp (template_text u.template) text) u units (without_named text units) (without_few text units)
-
 -- as many as there are, where one is replaced, or one more
 abbrev so_many : Option Routine → ℕ → ℕ
 so_many old n = cond (is_some old) n (suc n)

@@ -11,6 +11,8 @@ use Rattle.abc_store.specs.declared.faults.CommitFault.{CommitFault}
 use Rattle.abc_store.specs.declared.faults.CommitFault.TheVariants.{StoreFault, TooLarge, StoreFull, Memory}
 use Rattle.abc_store.specs.Workspace.{Workspace, checkpoint_of}
 use Rattle.abc_store.specs.Opening.{OpensTo}
+use Rattle.abc_journal.specs.declared.faults.AppendFault.{AppendFault}
+use Rattle.abc_journal.specs.declared.faults.AppendFault.TheVariants as append
 
 -- a workspace, and the layout of the image that holds it
 pub record Work : Type 0 where
@@ -26,6 +28,12 @@ pub record Holds (image : List ℕ) (work : Work) : Type 0 where
 pub data Refusal : Type 0 where
   too_large : ℕ → Refusal
   store_full : Full → Refusal
+
+-- a fault of the journal, as one of the commit
+abbrev pub commit_fault : AppendFault → CommitFault
+commit_fault append.StoreFault = StoreFault
+commit_fault append.Memory = Memory
+commit_fault (append.StoreFull need limit) = StoreFull need limit
 
 -- the later workspace is kept where its record was added
 abbrev pub kept_in : Workspace → Result Layout Full → Result Work Refusal

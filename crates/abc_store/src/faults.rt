@@ -32,7 +32,7 @@ impl From<OutOfMemory> for CommitFault {
 
 impl From<AppendFault> for CommitFault {
     ghost use Rattle.std.specs.Prelude.{◌≡◌};
-    ghost use Rattle.abc_store.specs.inner.Steps.{commit_fault};
+    ghost use Rattle.abc_store.specs.Commit.{commit_fault};
 
     ghost from_gives = { λ fault given. given ≡ commit_fault fault };
 

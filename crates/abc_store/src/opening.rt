@@ -1,7 +1,7 @@
 //! What the records of an image make, and whether types fit it.
 ghost use Rattle.std.specs.Prelude.{◌≡◌, ◌↔◌, ◌+◌, ◌-◌, ◌^◌, ℕ, min, Ok, Err, IfOk, OnOk, IsErrOf, IsTrue};
 ghost use Rattle.abc_journal.specs.Journal.{IfNotAStore};
-ghost use Rattle.abc_store.specs.Workspace.{Workspace, empty, AreKeptUnits, IsWellTyped};
+ghost use Rattle.abc_store.specs.Workspace.{empty, AreKeptUnits, IsWellTyped};
 ghost use Rattle.abc_store.specs.Opening.{LeadsTo, LeadsNowhere, Make, ComeTo};
 ghost use Rattle.abc_store.specs.inner.Steps.{IsSpellable};
 

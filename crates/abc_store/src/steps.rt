@@ -2,12 +2,12 @@
 ghost use Rattle.std.specs.Prelude.{◌≡◌, ◌≤◌, ◌+◌, ℕ, Bool, true, false, length, not, None, Ok, Err, IfErr, OnOk, IsErrOf, IsTrue, option_map};
 ghost use Rattle.abc_outside.specs.Outside.{RoseByOne, KeepsButStore};
 ghost use Rattle.abc_outside.specs.Stop.{Leaves, IsQuiet};
-ghost use Rattle.abc_journal.specs.Journal.{HasLayout, IsFull, after_record};
+ghost use Rattle.abc_journal.specs.Journal.{HasLayout, IsFull};
 ghost use Rattle.abc_journal.specs.Commit.{Full, AnswersTo, recorded, checkpointed, with_room, with_due, is_due as is_due_in, committed};
 ghost use Rattle.abc_store.specs.Workspace.{Workspace, empty, checkpoint_of, IsWellTyped};
 ghost use Rattle.abc_store.specs.Opening.{LeadsTo, OpensTo};
 ghost use Rattle.abc_store.specs.Commit.{Refusal, kept_in, StillOpens, OpensToEither};
-ghost use Rattle.abc_store.specs.inner.Steps.{IsNoFault, SaysLimit, IsCheckpoint, IsMadeUp, IsPlan, fits, TakesDue};
+ghost use Rattle.abc_store.specs.inner.Steps.{IsNoFault, SaysLimit, IsMadeUp, IsPlan, fits, TakesDue};
 
 use crate::due::is_due;
 use abc_journal::format::RECORD_EXTRA;

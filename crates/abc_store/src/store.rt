@@ -1,5 +1,5 @@
 //! The store: a workspace, and the journal that keeps it.
-ghost use Rattle.std.specs.Prelude.{◌≡◌, ◌⊎◌, ◌≤◌, ◌<◌, false, List, ℕ, length, IfOk, OnOk, IsErrOf, IsTrue, true, option_map, Ok, Err, Some};
+ghost use Rattle.std.specs.Prelude.{◌≡◌, ◌⊎◌, ◌<◌, false, ℕ, length, IfOk, OnOk, IsErrOf, IsTrue, true, option_map, Ok, Err, Some};
 ghost use Rattle.abc_outside.specs.Outside.{RoseByOne, KeepsButStore};
 ghost use Rattle.abc_outside.specs.Stop.{Leaves, IsQuiet};
 ghost use Rattle.abc_tree.specs.Units.{AreRising as AreInOrder};

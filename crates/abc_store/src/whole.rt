@@ -2,7 +2,7 @@
 ghost use Rattle.std.specs.Prelude.{◌≡◌, ◌≤◌, ◌++◌, ◌∷◌, [], length, IfOk, OnOk, map, option_map};
 ghost use Rattle.abc_frames.specs.Maps.{AreRising, AreRegular};
 ghost use Rattle.abc_tree.specs.Units.{AreRising as AreInOrder};
-ghost use Rattle.abc_store.specs.Workspace.{Workspace, as_change as change_of, set_target, set_unit, everything as everything_of};
+ghost use Rattle.abc_store.specs.Workspace.{as_change as change_of, set_target, set_unit, everything as everything_of};
 ghost use Rattle.abc_store.specs.inner.Steps.{IsSpellable, IsCheckpoint, IsMadeUp};
 
 use abc_frames::{TargetChange, Targets};

@@ -178,6 +178,28 @@ fn over_train<'a>(
     Ok(Next::Go(Work(place, Job::Quantify(quantifier, bound, test, before, train))))
 }
 
+/// A chain of relations with the right operand of one: it ends with one that fails, and with the last.
+fn take_link<'a>(
+    alloc: Global,
+    place: Place,
+    left: &Value,
+    op: Op,
+    links: &'a [Link],
+    value: Value,
+) -> Result<Next<'a>, Halt>
+    ensures leads { (units : List Routine) (scope : Names) (s : State) → Begins units scope place.line result s (resume_test units (meaning units place.levels) (at scope place.line) (chain_next left.now op links.now) value s) }
+    ensures scope { (scope : Names) → IfOk result (λ next. below_next scope next ≡ scope) }
+    ensures falls { IfOk result (λ next. next_weight next < 3 + links_size links.now) }
+{
+    if !compared(alloc, op, left, &value)? {
+        return Ok(Next::Give(Reply::Truth(false)));
+    }
+    match links {
+        [] => Ok(Next::Give(Reply::Truth(true))),
+        [_next, ..] => Ok(Next::Go(Work(place, Job::Compare(value, links)))),
+    }
+}
+
 /// How a test goes on with the value for which it waited.
 pub fn take_test<'a>(
     alloc: Global,
@@ -194,13 +216,7 @@ pub fn take_test<'a>(
 {
     match frame {
         ForTest::ChainFirst(links) => Ok(Next::Go(Work(place, Job::Compare(value, links)))),
-        ForTest::ChainNext(left, op, links) => {
-            if compared(alloc, op, &left, &value)? {
-                Ok(Next::Go(Work(place, Job::Compare(value, links))))
-            } else {
-                Ok(Next::Give(Reply::Truth(false)))
-            }
-        }
+        ForTest::ChainNext(left, op, links) => { take_link(alloc, place, &left, op, links, value) }
         ForTest::MemberLeft(op, train) => Ok(Next::Wait(
             Waiting::Test(place, ForTest::MemberRight(op, value)),
             Work(place, Job::See(train)),
@@ -364,10 +380,7 @@ fn see_link<'a>(
     ensures falls { IfOk result (λ next. next_weight next < 4 + expr_size right.now + links_size others.now) }
 {
     match value_at_once(scope, place, right, run, targets)? {
-        Some(value) => {
-            let frame = ForTest::ChainNext(left, op, others);
-            take_test(alloc, scope, place, frame, value, run, targets)
-        }
+        Some(value) => take_link(alloc, place, &left, op, others, value),
         None => Ok(Next::Wait(
             Waiting::Test(place, ForTest::ChainNext(left, op, others)),
             Work(place, Job::See(right)),

@@ -13,8 +13,7 @@ use Rattle.abc_ground.specs.Groups.{Cut, template_of}
 use Rattle.abc_ground.specs.Typable.{May}
 use Rattle.abc_demand.specs.declared.env.Signature.{Signature as SignatureVars}
 use Rattle.abc_demand.specs.Typings.{signatures_of, Agree}
-use Rattle.abc_principal.specs.Exact.{AreProper}
-use Rattle.abc_principal.specs.inner.Grouped.{AllProper}
+use Rattle.abc_principal.specs.Exact.{AreProper, AllProper}
 
 -- the command fits up to line n, its calls at the signatures of these variables
 abbrev pub CommandAt : List (Option SignatureVars) → Command → ℕ → (ℕ → Ground) → (List ℕ → Ground) → Type 0

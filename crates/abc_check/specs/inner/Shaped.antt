@@ -11,8 +11,7 @@ use Rattle.abc_value.specs.Types.{IsCollection}
 use Rattle.abc_value.specs.Forms.{Form, fits}
 use Rattle.abc_value.specs.declared.shape.ShapeKind.{ShapeKind}
 use Rattle.abc_value.specs.declared.shape.ShapeKind.TheVariants.{Anything, Number, Text, Collection, Compound, List as Listed, Table}
-use Rattle.abc_demand.specs.Typings.{types_of, Agree, AreMade}
-use Rattle.abc_demand.specs.inner.Named.{TargetsMade}
+use Rattle.abc_demand.specs.Typings.{types_of, Agree, AreMade, TargetsMade}
 
 -- A variable was made whose types are exactly those that P tells: whatever meets the new demands met the old ones, and gives one
 -- of them; and what meets the old ones meets the new ones with any proper one of them.

@@ -1,9 +1,8 @@
 -- Variables for the names of an item.
 use Rattle.std.specs.Prelude.{◌≡◌, ℕ, suc, ◌<◌, ◌≤◌, Bool, true, false, List, [], ◌∷◌, ◌++◌, Option, None, Some, slice_get}
-use Rattle.std.specs.List.{All}
 use Rattle.abc_num.specs.declared.types.Ground.{Ground}
 use Rattle.abc_terms.specs.declared.term.VarId.{VarId}
-use Rattle.abc_demand.specs.Typings.{types_of, Agree, AreMade}
+use Rattle.abc_demand.specs.Typings.{types_of, Agree, AreMade, TargetsMade}
 use Rattle.abc_demand.specs.Demanded.{AreGiven}
 use Rattle.abc_demand.specs.inner.Drafts.{Drafted}
 
@@ -26,10 +25,6 @@ abbrev pub RolesFit : (List ℕ → Ground) → List (Option (List ℕ)) → Lis
 RolesFit targets [] [] = Unit {0}
 RolesFit targets (r ∷ rs) (t ∷ ts) = RoleFits targets r t × RolesFit targets rs ts
 RolesFit targets _ _ = ⊥
-
--- variables that are below a count
-abbrev pub TargetsMade : ℕ → List (List ℕ × VarId) → Type 0
-TargetsMade n vars = All (λ p. p.1.0 < n) vars
 
 -- Names of these roles have these variables, of which nothing else is asked; targets that had none have got one.
 pub record Named (old new : Drafted) (before after : List (List ℕ × VarId)) (rs : List (Option (List ℕ))) (vars : List VarId) : Type 0 where

@@ -38,7 +38,7 @@ use Rattle.abc_expressions.specs.declared.lexemes.Lexeme.{Lexeme}
 use Rattle.abc_expressions.specs.Lexemes.{seen}
 use Rattle.abc_expressions.specs.declared.lexemes.Lexeme.TheVariants as t
 use Rattle.abc_expressions.specs.inner.Numbers.{number_at}
-use Rattle.abc_expressions.specs.Operators.{kind_of, begins, nullary, unary, infix_of, joined1, joined2}
+use Rattle.abc_expressions.specs.Operators.{kind_of, sign_of, begins, nullary, unary, infix_of, joined1, joined2}
 use Rattle.abc_expressions.specs.Grammar.{compound, own_name, paired}
 use Rattle.abc_expressions.specs.Texts.{is_bare, with_character}
 
@@ -124,14 +124,6 @@ abbrev pub taken : Reach → Next → ℕ → List Frame → ℕ → Expr → Fo
 taken (r.Joins i) next d stack k a otherwise = next d (f.Between k i a ∷ stack) (turn.Wants i.right)
 taken r.Selects next d stack k a otherwise = opened (g.Select a []) k next d stack
 taken r.Ends next d stack k a otherwise = otherwise
-
-abbrev pub sign_of : Lexeme → Sign
-sign_of (t.Sign sign) = sign
-sign_of (t.Number bytes) = s.Other
-sign_of (t.Name x) = s.Other
-sign_of (t.Keyword x) = s.Other
-sign_of (t.Text bytes) = s.Other
-sign_of t.Other = s.Other
 
 -- what a sign makes of a group behind its last operand
 abbrev pub after_part : Group → Sign → Expr → AfterPart

@@ -7,7 +7,6 @@ use Rattle.abc_expressions.specs.declared.frames.Frame.{Frame}
 use Rattle.abc_expressions.specs.declared.frames.Frame.TheVariants as f
 use Rattle.abc_expressions.specs.declared.frames.Group.{Group}
 use Rattle.abc_expressions.specs.declared.frames.Group.TheVariants as g
-use Rattle.abc_expressions.specs.declared.tree.ExpressionFront.{ExpressionFront}
 use Rattle.abc_expressions.specs.declared.frames.Step.{Step}
 use Rattle.abc_expressions.specs.declared.frames.Step.TheVariants as step
 use Rattle.abc_expressions.specs.declared.frames.Turn.{Turn}
@@ -71,7 +70,3 @@ Brings (Err fault.Memory) given = Unit {0}
 -- the tree in front of no more tokens
 abbrev pub Gives : Result Expr FormulaFault → Found → Type 0
 Gives = Tells (λ (a : Expr). (a, []))
-
--- the tree in front, and the tokens behind it
-abbrev pub Finds : Result ExpressionFront FormulaFault → Found → Type 0
-Finds = Tells (λ (front : ExpressionFront). (front.tree, front.rest.now))

@@ -27,8 +27,8 @@ use Rattle.abc_formula.specs.declared.test_frames.NamesEnd.{NamesEnd}
 use Rattle.abc_formula.specs.declared.test_frames.NamesEnd.TheVariants as end
 use Rattle.abc_formula.specs.declared.test_frames.Behind.{Behind}
 use Rattle.abc_formula.specs.declared.test_frames.Behind.TheVariants as behind
-use Rattle.abc_expressions.specs.Operators.{kind_of}
-use Rattle.abc_expressions.specs.inner.Machine.{Found, Leaves, sign_of, expression_of}
+use Rattle.abc_expressions.specs.Operators.{kind_of, sign_of}
+use Rattle.abc_expressions.specs.inner.Machine.{Found, Leaves, expression_of}
 use Rattle.abc_formula.specs.TestGrammar.{is_keyword, quantifier_of, relation_of, membership_of, predicate, link, is_round, gathered, takes_and, takes_or}
 
 -- a test, and the tokens behind it

@@ -1,15 +1,13 @@
 -- What stands in front of some bytes, read from left to right, and what follows it.
-use Rattle.std.specs.Prelude.{◌≡◌, ℕ, zero, suc, ◌+◌, ◌*◌, ◌^◌, ℤ, pos, negsuc, Bool, true, false, not, ◌&&◌, ◌||◌, ◌==◌, nat_lt, nat_le, List, [], ◌∷◌, length, take, drop, Option, Some, None, Result, Ok, Err, if◌then◌else◌}
+use Rattle.std.specs.Prelude.{◌≡◌, ℕ, zero, suc, ◌+◌, ◌*◌, ◌^◌, ℤ, pos, negsuc, Bool, true, false, not, ◌&&◌, ◌==◌, nat_lt, nat_le, List, [], ◌∷◌, length, take, drop, Option, Some, None, Result, Ok, Err, if◌then◌else◌}
 use Rattle.std.specs.Int.{Width, w32, w64, w128, byte_len, from_be_bytes, cast_signed}
 use Rattle.std.specs.Ordering.{is_lt, is_gt}
 use Rattle.abc_num.specs.Characters.{are_characters}
 use Rattle.abc_num.specs.Number.{Fraction, whole_number}
 use Rattle.abc_num.specs.Ratio.{ratio}
-use Rattle.abc_num.specs.declared.limits.TheConstants.{MOST_LINES, MOST_LINE_BYTES, MOST_VALUE_HEIGHT}
+use Rattle.abc_num.specs.declared.limits.TheConstants.{MOST_LINES, MOST_VALUE_HEIGHT}
 use Rattle.abc_num.specs.declared.lines.Line.{Line}
 use Rattle.abc_num.specs.declared.number.NumFault.{NumFault}
-use Rattle.abc_tokens.specs.Bytes.{is_small, is_digit, is_quote, point, space, begins}
-use Rattle.abc_tokens.specs.Words.{goes_on}
 use Rattle.abc_value.specs.Tree.{Tree, trees, pairs}
 use Rattle.abc_value.specs.Tree as tree
 use Rattle.abc_value.specs.Order.{order}
@@ -20,6 +18,7 @@ use Rattle.abc_record.specs.declared.change.Change.{Change}
 use Rattle.abc_record.specs.declared.change.Change.TheVariants.{SetTarget, DropTarget, SetUnit, DropUnit}
 use Rattle.abc_record.specs.declared.faults.ReadFault.{ReadFault}
 use Rattle.abc_record.specs.declared.faults.ReadFault.TheVariants.{Bad, Memory}
+use Rattle.abc_record.specs.KeptTests.{is_kept_name, is_kept_line}
 
 -- what was read, and what follows it
 abbrev pub Found : Type 0 → Type 0
@@ -64,34 +63,10 @@ only test found = found >>= λ x. if test x.0 then Some x else None
 unfoldable pub text_of : List ℕ → Found (List ℕ)
 text_of bytes = only are_characters (counted_of bytes)
 
--- the rest of a name: what a name goes on with, and points that stand between two such characters
-abbrev pub goes_on_with : List ℕ → Bool
-goes_on_with [] = false
-goes_on_with (b ∷ bytes) = goes_on is_small b || ((b == point) && begins (goes_on is_small) bytes)
-
-unfoldable pub is_tail : List ℕ → Bool
-is_tail [] = true
-is_tail (b ∷ bytes) = goes_on_with (b ∷ bytes) && is_tail bytes
-
--- a small letter, and the rest
-unfoldable pub is_name : List ℕ → Bool
-is_name [] = false
-is_name (b ∷ bytes) = is_small b && is_tail bytes
-
-abbrev pub is_kept_name : List ℕ → Bool
-is_kept_name name = is_name name && nat_le (length name) MOST_LINE_BYTES
-
 unfoldable pub name_of : List ℕ → Found (List ℕ)
 name_of bytes = only is_kept_name (counted_of bytes)
 
 -- ---- lines
-
-abbrev pub is_flush : List ℕ → Bool
-is_flush [] = true
-is_flush (b ∷ bytes) = not (b == space)
-
-abbrev pub is_kept_line : List ℕ → Bool
-is_kept_line text = are_characters text && (nat_le (length text) MOST_LINE_BYTES && is_flush text)
 
 unfoldable pub line_of : List ℕ → Found Line
 line_of bytes = do

@@ -1,10 +1,11 @@
 -- The variables and demands of a copy.
-use Rattle.std.specs.Prelude.{◌≡◌, ℕ, ◌+◌, ◌<◌, ◌≤◌, List, [], ◌∷◌, length}
+use Rattle.std.specs.Prelude.{◌≡◌, ℕ, ◌+◌, ◌<◌, List, [], ◌∷◌, length}
 use Rattle.abc_terms.specs.declared.term.VarId.{VarId}
 use Rattle.abc_terms.specs.declared.demand.Demand.{Demand}
 use Rattle.abc_terms.specs.declared.demand.Demand.TheVariants as demand
 use Rattle.abc_terms.specs.Renamed.{number_in}
-use Rattle.abc_unify.specs.Graphs.{Seen, back_at}
+use Rattle.abc_unify.specs.Graphs.{Seen}
+use Rattle.abc_scheme.specs.Later.{IsLater}
 
 -- variables with the numbers from `first` on
 abbrev pub AreFrom : ℕ → List VarId → Type 0
@@ -15,10 +16,6 @@ abbrev pub equals : List VarId → List VarId → List Demand
 equals [] ys = []
 equals (x ∷ xs) [] = []
 equals (x ∷ xs) (y ∷ ys) = demand.Equal x y ∷ equals xs ys
-
--- a graph can go back from the second to where it could go back from the first
-abbrev pub IsLater : Seen → Seen → Type 0
-IsLater s t = (m : ℕ) → m ≤ length s.past → (m ≤ length t.past) × (back_at t m ≡ back_at s m)
 
 -- variables were made, which are these
 pub record AreMadeBehind (old new : Seen) (vars : List VarId) : Type 0 where

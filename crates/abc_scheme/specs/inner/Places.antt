@@ -1,5 +1,5 @@
 -- A table of the places of variables in a list.
-use Rattle.std.specs.Prelude.{◌≡◌, ℕ, ◌<◌, List, map, length, Option, Some, slice_get}
+use Rattle.std.specs.Prelude.{◌≡◌, ℕ, ◌<◌, List, map, length, Some, slice_get}
 use Rattle.abc_terms.specs.declared.term.VarId.{VarId}
 use Rattle.abc_terms.specs.Renamed.{variable, number_in}
 use Rattle.abc_unify.specs.declared.forms.Known.{Known}

@@ -6,7 +6,6 @@ use Rattle.abc_journal.specs.declared.faults.AppendFault.{AppendFault}
 use Rattle.abc_journal.specs.declared.faults.AppendFault.TheVariants as append
 use Rattle.abc_journal.specs.Journal.{need_of, after_record}
 use Rattle.abc_journal.specs.Commit.{is_due}
-use Rattle.abc_store.specs.declared.faults.CommitFault.{CommitFault}
 use Rattle.abc_store.specs.declared.faults.CommitFault.TheVariants as commit
 use Rattle.abc_frames.specs.Maps.{AreRegular}
 use Rattle.abc_store.specs.Workspace.{Workspace, empty, checkpoint_of, IsWithinLimits, IsWellTyped, AreNamed, AreKeptUnits}
@@ -32,12 +31,6 @@ SaysLimit (Ok x) image = Unit {0}
 SaysLimit (Err append.StoreFault) image = Unit {0}
 SaysLimit (Err append.Memory) image = Unit {0}
 SaysLimit (Err (append.StoreFull need limit)) image = limit ≡ image
-
--- a fault of the journal, as one of the commit
-abbrev pub commit_fault : AppendFault → CommitFault
-commit_fault append.StoreFault = commit.StoreFault
-commit_fault append.Memory = commit.Memory
-commit_fault (append.StoreFull need limit) = commit.StoreFull need limit
 
 -- the payload of a checkpoint of this workspace
 abbrev pub IsCheckpoint : List ℕ → Workspace → Type 0

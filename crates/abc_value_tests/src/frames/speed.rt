@@ -47,12 +47,19 @@ fn types_of_a_long_table_are_quick(rt: HostRuntime) -> Result<(), ValueFault> {
     Ok(())
 }
 
-/// A list that the numbers come to in no order, and then as many copies of it.
+/// Numbers below 2^20 in an order like that of numbers drawn at random: the bits of `k` are mixed.
+fn scattered(k: u32) -> i64 {
+    let k = (k ^ k >> 16).wrapping_mul(0x85eb_ca6b);
+    let k = (k ^ k >> 13).wrapping_mul(0xc2b2_ae35);
+    i64::from((k ^ k >> 16) >> 12)
+}
+
+/// A list that scattered numbers come to, and then as many copies of it.
 #[test]
 fn any_order_is_quick(rt: HostRuntime) -> Result<(), ValueFault> {
     let mut all = Value::empty(rt.alloc());
-    for k in 0..1_000_000u64 {
-        all.insert(whole((k * 7_919 % 1_000_003) as i64))?;
+    for k in 0..1_000_000u32 {
+        all.insert(whole(scattered(k)))?;
     }
     for _ in 0..1_000_000u32 {
         let copy = all.copy()?;

@@ -1,5 +1,5 @@
 use Rattle.std.proofs.Common.{take}
-use Rattle.abc_demand.specs.inner.Named.{TargetsMade}
+use Rattle.abc_demand.specs.Typings.{TargetsMade}
 use Rattle.abc_principal.specs.Exact.{cuts_of}
 use Rattle.abc_check.specs.Standing.{KnowsUnits}
 use Rattle.abc_check.specs.inner.Asked.{SomeAsked}

@@ -1,7 +1,7 @@
 use Rattle.std.proofs.Common.{◌+◌, ◌-◌, ◌*◌, length, take}
 use Rattle.abc_value.specs.FormCode.{depth_of}
 use Rattle.abc_value.specs.ShapeParts.{shape_parts}
-use Rattle.abc_scheme.specs.inner.Copies.{IsLater}
+use Rattle.abc_scheme.specs.Later.{IsLater}
 use Rattle.abc_check.specs.inner.Shaped.{AreShapeVars}
 use Rattle.abc_check.proofs.shapes.+shaped.Given as goal
 

@@ -1,8 +1,8 @@
 use Rattle.std.proofs.Common.{◌≡◌, ◌++◌, ℕ, List, [], take}
 use Rattle.abc_terms.specs.declared.term.VarId.{VarId}
 use Rattle.abc_ground.specs.Groups.{Cut}
-use Rattle.abc_scheme.specs.inner.Copies.{IsLater}
-use Rattle.abc_demand.specs.inner.Named.{TargetsMade}
+use Rattle.abc_scheme.specs.Later.{IsLater}
+use Rattle.abc_demand.specs.Typings.{TargetsMade}
 use Rattle.abc_check.specs.Standing.{AreAsked}
 use Rattle.abc_check.proofs.values.hold_values.Given as goal
 

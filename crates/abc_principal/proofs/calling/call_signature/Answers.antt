@@ -3,7 +3,7 @@ use Rattle.std.specs.Prelude.{Option, Some}
 use Rattle.std.specs.Option.{option_map}
 use Rattle.abc_demand.specs.declared.env.Signature.{Signature as SignatureVars}
 use Rattle.abc_principal.specs.Exact.{cuts_of}
-use Rattle.abc_principal.specs.inner.Grouped.{AreCalls}
+use Rattle.abc_principal.specs.Calls.{AreCalls}
 use Rattle.abc_principal.proofs.Answering.{if_ok_more}
 use Rattle.abc_principal.proofs.Asked.{calls_own, calls_outside, never_outside}
 use Rattle.abc_principal.proofs.calling.call_signature.Goals as goal

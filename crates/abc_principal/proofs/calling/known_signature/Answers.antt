@@ -2,7 +2,7 @@ use Rattle.std.proofs.Common.{◌≡◌, ◌∙◌, ◌++◌, ap, sym, subst}
 use Rattle.std.specs.Prelude.{Err}
 use Rattle.abc_unify.specs.declared.graph.UnifyFault.{UnifyFault}
 use Rattle.abc_principal.specs.Exact.{known_of}
-use Rattle.abc_principal.specs.inner.Grouped.{Targets}
+use Rattle.abc_principal.specs.Calls.{Targets}
 use Rattle.abc_principal.proofs.Answering.{same_fault}
 use Rattle.abc_principal.proofs.Asked.{calls_known, never_known, calls_missing}
 use Rattle.abc_principal.proofs.Named.{behind_none}

@@ -1,6 +1,6 @@
 use Rattle.std.proofs.Common.{◌≡◌, drop}
 use Rattle.abc_principal.specs.Exact.{cuts_of}
-use Rattle.abc_principal.specs.inner.Grouped.{own_of}
+use Rattle.abc_principal.specs.Calls.{own_of}
 use Rattle.abc_principal.proofs.calling.own_signature.Given as goal
 
 abbrev pub invariant-loop-i : goal.invariant-loop-i

@@ -1,9 +1,9 @@
 use Rattle.std.proofs.Common.{refl, sym, subst}
 use Rattle.std.specs.Prelude.{Some}
 use Rattle.abc_demand.specs.declared.env.Env.{Env}
-use Rattle.abc_demand.specs.inner.Named.{TargetsMade}
+use Rattle.abc_demand.specs.Typings.{TargetsMade}
 use Rattle.abc_principal.specs.Exact.{cut_in}
-use Rattle.abc_principal.specs.inner.Grouped.{Targets}
+use Rattle.abc_principal.specs.Calls.{Targets}
 use Rattle.abc_principal.proofs.Answering.{from_three}
 use Rattle.abc_principal.proofs.Fitted.{is_asked, is_refused}
 use Rattle.abc_principal.proofs.fitting.ask.Goals as goal

@@ -7,10 +7,10 @@ use Rattle.abc_terms.specs.declared.term.VarId.{VarId}
 use Rattle.abc_unify.specs.Graphs.{Seen}
 use Rattle.abc_unify.specs.declared.graph.UnifyFault.{UnifyFault}
 use Rattle.abc_demand.specs.declared.env.Signature.{Signature as SignatureVars}
-use Rattle.abc_demand.specs.Typings.{SignatureMade}
-use Rattle.abc_demand.specs.inner.Named.{TargetsMade}
+use Rattle.abc_demand.specs.Typings.{SignatureMade, TargetsMade}
 use Rattle.abc_principal.specs.Exact.{cut_in, cuts_of}
-use Rattle.abc_principal.specs.inner.Grouped.{Targets, AreFitted, NoneFits, AreRead}
+use Rattle.abc_principal.specs.inner.Grouped.{AreFitted, NoneFits, AreRead}
+use Rattle.abc_principal.specs.Calls.{Targets}
 use Rattle.abc_principal.proofs.Answering.{same_fault}
 use Rattle.abc_principal.proofs.Asked.{signatures_more}
 use Rattle.abc_principal.proofs.Exactness.{all_exact, all_whole, never_fits}

@@ -5,7 +5,7 @@ use Rattle.abc_unify.specs.declared.graph.UnifyFault.{UnifyFault}
 use Rattle.abc_terms.specs.Nodes.{AreIn}
 use Rattle.abc_scheme.proofs.Later.{later_equal}
 use Rattle.abc_scheme.specs.Schemes.{IsCopied, CannotBeCopied}
-use Rattle.abc_principal.specs.inner.Naming.{AreNamed}
+use Rattle.abc_principal.specs.TargetVars.{AreNamed}
 use Rattle.abc_principal.proofs.Answering.{same_fault}
 use Rattle.abc_principal.proofs.Placed.{placed, never_placed}
 use Rattle.abc_principal.proofs.instances.place.Goals as goal

@@ -1,6 +1,6 @@
 use Rattle.std.proofs.Common.{[], List, subst, sym}
 use Rattle.abc_terms.specs.declared.term.VarId.{VarId}
-use Rattle.abc_principal.specs.inner.Naming.{AreNamed}
+use Rattle.abc_principal.specs.TargetVars.{AreNamed}
 use Rattle.abc_principal.proofs.Named.{named_none, named_next}
 use Rattle.abc_principal.proofs.naming.target_vars.Goals as goal
 

@@ -1,5 +1,5 @@
 use Rattle.std.proofs.Common.{take}
-use Rattle.abc_principal.specs.inner.Naming.{AreNamed}
+use Rattle.abc_principal.specs.TargetVars.{AreNamed}
 use Rattle.abc_principal.proofs.naming.target_vars.Given as goal
 
 abbrev pub invariant-loop-name : goal.invariant-loop-name

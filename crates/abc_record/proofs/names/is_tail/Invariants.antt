@@ -1,5 +1,5 @@
 use Rattle.std.proofs.Common.{◌≡◌, length}
-use Rattle.abc_record.specs.inner.Reading.{is_tail}
+use Rattle.abc_record.specs.KeptTests.{is_tail}
 use Rattle.abc_record.proofs.names.is_tail.Given as goal
 
 abbrev pub invariant-loop-more : goal.invariant-loop-more

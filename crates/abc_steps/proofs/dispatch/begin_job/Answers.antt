@@ -1,15 +1,8 @@
 -- Answers for begin_job.
-use Rattle.std.proofs.Common.{rules, refl, ap, ◌≡◌, ◌≤◌, ◌<◌, ◌+◌, Bool, List, IfOk, IsErrOf, ℕ, ◌-◌, ◌*◌, length, ◌/◌, ◌%◌, true, false, nat_eq, nat_lt, [], ◌∷◌, ◌++◌, slice_index_or, slice_set, bit_and, bit_or, Fits, w8, w32, w64, Bor, MutBor}
-use Rattle.abc_num.specs.declared.lines.RawLine.{RawLine}
-use Rattle.abc_tree.specs.declared.commands.Unit.{Unit as Routine}
-use Rattle.abc_frames.specs.Maps.{Targets as Store}
-use Rattle.abc_outside.specs.Outside.{RoseByOne}
-use Rattle.abc_meaning.specs.Meaning.{meaning}
-use Rattle.abc_state.specs.Views.{at, flow_of, scope_of, state_of}
-use Rattle.abc_pending.specs.Leads.{as_flow, below, caller_of, now, resume, resume_flow}
-use Rattle.abc_pending.specs.Steps.{state_with, IsNoCommand, Resumes, Starts}
-use Rattle.abc_pending.specs.Views.{Begins, below_next, flow_frame, frame_line, frame_of, job_of, next_weight, reply_of}
-use Rattle.abc_pending.specs.Weights.{Falls, IsWithin, action_size, flow_weight, frame_weight, job_weight}
+use Rattle.std.proofs.Common.{refl, ap, ◌≡◌, ◌≤◌, ◌<◌, ◌+◌, Bool, ℕ, ◌-◌, ◌*◌, ◌/◌, ◌%◌, true, false, [], ◌∷◌, ◌++◌}
+use Rattle.abc_pending.specs.Leads.{now}
+use Rattle.abc_pending.specs.Views.{job_of}
+use Rattle.abc_pending.specs.Weights.{job_weight}
 use Rattle.abc_steps.proofs.dispatch.begin_job.Goals as goal
 use Rattle.abc_pending.specs.Weights.{suite_size, test_size}
 use Rattle.abc_steps.proofs.Beginning.{unspent_at_once, unspent_if, falls_so, spent_turn, spent_call}

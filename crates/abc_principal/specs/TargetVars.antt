@@ -5,10 +5,9 @@ use Rattle.abc_terms.specs.declared.term.VarId.{VarId}
 use Rattle.abc_terms.specs.Nodes.{AreIn}
 use Rattle.abc_unify.specs.Graphs.{Seen}
 use Rattle.abc_unify.specs.Outer.{types}
-use Rattle.abc_demand.specs.Typings.{Agree}
+use Rattle.abc_demand.specs.Typings.{Agree, TargetsMade}
 use Rattle.abc_demand.specs.Demanded.{AreGiven}
-use Rattle.abc_scheme.specs.inner.Copies.{IsLater}
-use Rattle.abc_demand.specs.inner.Named.{TargetsMade}
+use Rattle.abc_scheme.specs.Later.{IsLater}
 
 -- These targets have these variables, of which nothing is asked; those that had none have got one.
 pub record AreNamed (old new : Seen) (before after : List (List ℕ × VarId)) (names : List (List ℕ)) (vars : List VarId) : Type 0 where
