@@ -10,5 +10,5 @@ module _ {T : Type 0} where
   pub chunk_count : (t : Tower T) → vec_len t.chunks ≡ length (pieces t)
   chunk_count t = t.chunks.ok.0 ∙ sym (length-map t.chunks.items chunk_items)
 
-  pub total_count : (t : Tower T) → HasTotals t → vec_len t.totals ≡ suc (length (pieces t))
-  total_count t h = t.totals.ok.0 ∙ ap length h ∙ count_totals 0 (pieces t)
+  pub total_count : (t : Tower T) → HasTotals t → length t.totals ≡ suc (length (pieces t))
+  total_count t h = ap length h ∙ count_totals 0 (pieces t)

@@ -2,6 +2,7 @@ pub mod Clones
 pub mod Counts
 pub mod Halves
 pub mod Joined
+pub mod Notes
 pub mod Rooms
 pub mod Searching
 pub mod Shifts

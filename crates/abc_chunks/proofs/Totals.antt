@@ -1,6 +1,6 @@
 -- The totals tell where each chunk begins.
 use Rattle.std.proofs.Common.{◌≡◌, ℕ, zero, suc, ◌+◌, ◌-◌, ◌<◌, ◌≤◌, List, [], ◌∷◌, length, take, get_or, refl, sym, ap, subst, ◌∙◌, arith, add-one}
-use Rattle.std.proofs.lemmas.List.{length-append, get_or_read}
+use Rattle.std.proofs.lemmas.List.{length-append}
 use Rattle.abc_chunks.specs.Towers.{joined, sizes, totals_from}
 use Rattle.abc_chunks.specs.inner.Spots.{AreAround, IsChunkAt, IsSpot, piece_at}
 
@@ -71,9 +71,6 @@ module _ {T : Type 0} where
       (record { chunk = here; within = omega (arith, low, high, last, more, at.first); front = omega (arith, low, at.first) }, omega (arith, low, high, last, more, at.first))
 
   -- the spot of a place, by the total that was read
-  pub spot_read : (xss : List (List T)) (totals read : List ℕ) (place k n : ℕ) → totals ≡ totals_from 0 (sizes xss) → read ≡ totals → IsChunkAt read place k → n ≡ get_or totals k n
+  pub spot_read : (xss : List (List T)) (totals : List ℕ) (place k n : ℕ) → totals ≡ totals_from 0 (sizes xss) → IsChunkAt totals place k → n ≡ get_or totals k 0
       → IsSpot xss place k (place - n) × (place - n < length (piece_at xss k))
-  spot_read xss totals read place k n e same at is =
-      let here : IsChunkAt totals place k = subst (λ ts. IsChunkAt ts place k) same at in
-      let total = get_or_read totals k n (omega (arith, here.within)) is 0 in
-      subst (λ m. IsSpot xss place k (place - m) × (place - m < length (piece_at xss k))) (sym total) (spot_found xss totals place k e here)
+  spot_read xss totals place k n e at is = subst (λ m. IsSpot xss place k (place - m) × (place - m < length (piece_at xss k))) (sym is) (spot_found xss totals place k e at)

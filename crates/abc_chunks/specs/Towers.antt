@@ -42,7 +42,7 @@ AreSizes (k ∷ ks) = ((1 ≤ k) × (k ≤ MOST_IN_CHUNK)) × AreSizes ks
 
 -- the totals are those of the chunks
 abbrev pub HasTotals : {T : Type 0} → Tower T → Type 0
-HasTotals t = t.totals.items ≡ totals_from 0 (sizes (pieces t))
+HasTotals t = t.totals ≡ totals_from 0 (sizes (pieces t))
 
 -- the totals are those of the chunks, and each chunk is neither empty nor too long
 abbrev pub IsSoundTower : {T : Type 0} → Tower T → Type 0

@@ -1,6 +1,7 @@
 //! Sequences in chunks, which equal sequences share.
 #![tactic(auto)]
 
+mod blocks;
 mod chunks;
 mod search;
 mod tower;

@@ -29,7 +29,7 @@ impl<T> Tower<T> {
         let k = self.chunk_for(sought);
         let items = self.chunks[k].as_slice();
         let place = place_in(items, sought);
-        self.totals[k + 1] - (items.len() - place)
+        self.totals.at(k + 1) - (items.len() - place)
     }
 
     /// The chunk in which the place stands, or at whose end.

@@ -1,9 +1,10 @@
 //! The chunks of a sequence, with the count of elements in front of each.
-ghost use Rattle.std.specs.Prelude.{◌≡◌, ◌+◌, ◌-◌, ◌<◌, ◌≤◌, ◌^◌, [], ◌∷◌, length, map, drop, suc, OnOk, OnErr, IfOk, slice_index_or, slice_set};
-ghost use Rattle.std.specs.List.{All, insert, remove};
+ghost use Rattle.std.specs.Prelude.{◌≡◌, ◌+◌, ◌-◌, ◌<◌, ◌≤◌, ◌^◌, [], ◌∷◌, length, OnOk, OnErr, IfOk, slice_index_or, slice_set};
+ghost use Rattle.std.specs.List.{insert, remove};
 ghost use Rattle.abc_chunks.specs.Towers.{pieces, joined, HasTotals, IsSoundTower, ClonesAreEqual};
-ghost use Rattle.abc_chunks.specs.inner.Spots.{AreAround, IsChunkAt, IsSpot, piece_at, raised, lowered, parted, without_empty};
+ghost use Rattle.abc_chunks.specs.inner.Spots.{AreAround, IsChunkAt, IsSpot, piece_at, parted, without_empty};
 
+use crate::blocks::Totals;
 use std::alloc::{AllocError, Global};
 use std::mem;
 use std::rc::Rc;
@@ -18,7 +19,7 @@ const GROWTH: usize = 4;
 #[derive(Drop)]
 pub(crate) struct Tower<T> {
     pub(crate) chunks: Vec<Rc<Vec<T>>>,
-    pub(crate) totals: Vec<usize>,
+    pub(crate) totals: Totals,
 }
 
 /// A place in a chunk.
@@ -32,18 +33,18 @@ impl<T: Drop> Clone for Tower<T> {
     ghost use Rattle.std.specs.Prelude.{◌≡◌};
     ghost use Rattle.abc_chunks.specs.Towers.{pieces};
 
-    ghost is_clone = { λ x y. (pieces y ≡ pieces x) × (y.totals.items ≡ x.totals.items) };
+    ghost is_clone = { λ x y. (pieces y ≡ pieces x) × (y.totals ≡ x.totals) };
 
     fn clone(&self) -> Result<Tower<T>, AllocError> {
         Ok(Tower {
             chunks: self.chunks.clone()?,
-            totals: self.totals.clone()?,
+            totals: self.totals.copy()?,
         })
     }
 }
 
 /// The chunk that has the element at this place.
-fn chunk_of(totals: &[usize], place: usize) -> usize
+fn chunk_of(totals: &Totals, place: usize) -> usize
     requires { AreAround totals.now place }
     ensures { IsChunkAt totals.now place result }
 {
@@ -51,7 +52,7 @@ fn chunk_of(totals: &[usize], place: usize) -> usize
     let mut high = totals.len() - 1;
     while low + 1 < high {
         let middle = low + (high - low) / 2;
-        if totals[middle] <= place {
+        if totals.at(middle) <= place {
             low = middle;
         } else {
             high = middle;
@@ -60,49 +61,13 @@ fn chunk_of(totals: &[usize], place: usize) -> usize
     low
 }
 
-/// Counts one element more in front of each from this place on.
-fn raise(totals: &mut Vec<usize>, from: usize)
-    requires from { from ≤ length totals.old.items }
-    requires fits { All (λ n. n < 2 ^ 64 - 1) (drop from totals.old.items) }
-    ensures { totals.new.items ≡ raised from totals.old.items }
-{
-    raise_all(&mut totals[from..]);
-}
-
-fn raise_all(totals: &mut [usize])
-    requires { All (λ n. n < 2 ^ 64 - 1) totals.old }
-    ensures { totals.new ≡ map (λ n. n + 1) totals.old }
-{
-    for i in 0..totals.len() {
-        totals[i] += 1;
-    }
-}
-
-/// Counts one element less in front of each from this place on.
-fn lower(totals: &mut Vec<usize>, from: usize)
-    requires from { from ≤ length totals.old.items }
-    requires some { All (λ n. 1 ≤ n) (drop from totals.old.items) }
-    ensures { totals.new.items ≡ lowered from totals.old.items }
-{
-    lower_all(&mut totals[from..]);
-}
-
-fn lower_all(totals: &mut [usize])
-    requires { All (λ n. 1 ≤ n) totals.old }
-    ensures { totals.new ≡ map (λ n. n - 1) totals.old }
-{
-    for i in 0..totals.len() {
-        totals[i] -= 1;
-    }
-}
-
 impl<T> Tower<T> {
     /// How many elements there are.
     pub(crate) fn len(&self) -> usize
         requires { HasTotals self.now }
         ensures { result ≡ length (joined (pieces self.now)) }
     {
-        self.totals[self.chunks.len()]
+        self.totals.at(self.chunks.len())
     }
 
     /// The element at this place.
@@ -112,7 +77,7 @@ impl<T> Tower<T> {
         ensures { result.now ≡ slice_index_or (joined (pieces self.now)) place result.now }
     {
         let k = chunk_of(&self.totals, place);
-        &self.chunks[k].as_slice()[place - self.totals[k]]
+        &self.chunks[k].as_slice()[place - self.totals.at(k)]
     }
 
     /// The spot of the element at this place.
@@ -125,7 +90,7 @@ impl<T> Tower<T> {
         let chunk = chunk_of(&self.totals, place);
         Spot {
             chunk,
-            at: place - self.totals[chunk],
+            at: place - self.totals.at(chunk),
         }
     }
 
@@ -246,7 +211,7 @@ impl<T: Clone + Drop> Tower<T> {
     {
         let chunk = &mut self.chunks[spot.chunk];
         put_in_chunk(chunk, spot.at, x)?;
-        raise(&mut self.totals, spot.chunk + 1);
+        self.totals.raise(spot.chunk + 1);
         Ok(())
     }
 
@@ -264,7 +229,7 @@ impl<T: Clone + Drop> Tower<T> {
         let items = self.chunks[k].as_slice();
         let low = chunk_from(alloc, &items[..cut])?;
         let high = chunk_from(alloc, &items[cut..])?;
-        let middle = self.totals[k + 1] - (items.len() - cut);
+        let middle = self.totals.at(k + 1) - (items.len() - cut);
         self.totals.insert(k + 1, middle)?;
         match self.chunks.insert(k + 1, high) {
             Ok(()) => {
@@ -330,7 +295,7 @@ impl<T: Clone + Drop> Tower<T> {
     {
         let chunk = &mut self.chunks[spot.chunk];
         let gone = take_from_chunk(chunk, spot.at)?;
-        lower(&mut self.totals, spot.chunk + 1);
+        self.totals.lower(spot.chunk + 1);
         Ok(gone)
     }
 
@@ -388,8 +353,8 @@ pub(crate) fn first_tower<T: Drop>(alloc: Global, x: T) -> Result<Tower<T>, Allo
     items.push(x)?;
     let mut chunks = Vec::new(alloc);
     chunks.push(Rc::new(alloc, items)?)?;
-    let mut totals = Vec::new(alloc);
-    totals.push(0)?;
-    totals.push(1)?;
-    Ok(Tower { chunks, totals })
+    Ok(Tower {
+        chunks,
+        totals: Totals::of_one(alloc)?,
+    })
 }

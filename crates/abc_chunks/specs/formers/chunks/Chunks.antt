@@ -1,5 +1,5 @@
 -- `Chunks` as a type that may hold the type that holds it. Its value is the list of its elements.
-use Rattle.std.specs.Prelude.{◌≡◌, ℕ, List, [], ◌∷◌, ◌++◌, map, Option, None, Some, Vec}
+use Rattle.std.specs.Prelude.{◌≡◌, ℕ, List, [], ◌∷◌, ◌++◌, map, Option, None, Some}
 use mathlib.Core.Path.{refl, sym, ap, subst, ◌∙◌}
 use mathlib.Core.Logic.{◌⊎◌, inl, inr}
 use mathlib.Core.HLevel.{×_prop}
@@ -59,7 +59,7 @@ abbrev chunk_former : Former {0}
 chunk_former = rc_of (vec.the_former this Global)
 
 abbrev tower_former : Former {0}
-tower_former = via (pair (vec.the_former chunk_former Global) (const (Vec ℕ Global))) (λ X. Tower X) (λ X t. (t.chunks, t.totals)) (λ X v. record { chunks = v.0; totals = v.1 }) (λ X t. refl) (λ X v. refl)
+tower_former = via (pair (vec.the_former chunk_former Global) (const (List ℕ))) (λ X. Tower X) (λ X t. (t.chunks, t.totals)) (λ X v. record { chunks = v.0; totals = v.1 }) (λ X t. refl) (λ X v. refl)
 
 abbrev Shared : Type 0 → Type 0
 Shared X = Rc (Tower X) Global
@@ -118,8 +118,8 @@ module _ {X Y : Type 0} (h : X → Y) where
   items_over None = refl
   items_over (Some r) = joined_over r.value.chunks.items
 
-  abbrev IsSoundAt : Vec ℕ Global → List ℕ → Type 0
-  IsSoundAt totals ks = (totals.items ≡ totals_from 0 ks) × AreSizes ks
+  abbrev IsSoundAt : List ℕ → List ℕ → Type 0
+  IsSoundAt totals ks = (totals ≡ totals_from 0 ks) × AreSizes ks
 
   sound_over : (o : Option (Shared X)) → IsSound o → IsSound (option_over o)
   sound_over None s = tt

@@ -27,6 +27,6 @@ returns-then-is_empty-clause-totals g c =
     let was = chunk_at cs c.args.k c.index.result.now c.requires.chunk c.index.ensures in
     let empty = sym (ap length was) ∙ sym (ap (λ v. length v.items) c.deref.ensures) ∙ none in
     let now = ap (map chunk_items) c.remove.ensures.items ∙ chunks_without cs c.args.k in
-    c.remove-then-is_empty.ensures.items ∙ ap (λ ts. remove ts (c.args.k + 1)) c.requires.totals
+    c.remove-then-is_empty.ensures ∙ ap (λ ts. remove ts (c.args.k + 1)) c.requires.totals
     ∙ ap (remove (totals_from 0 (sizes xss))) (add-one c.args.k) ∙ sym (totals_gone xss c.args.k c.requires.chunk (no_length (piece_at xss c.args.k) empty))
     ∙ ap (λ yss. totals_from 0 (sizes yss)) (sym now)

@@ -1,6 +1,5 @@
 use Rattle.std.proofs.Common.{◌≡◌, ◌≤◌, ◌+◌, ◌-◌, suc, true, false, length, get_or, sym, ap, subst, ◌∙◌, arith, add-one}
 use Rattle.std.specs.List.Sorted.{IsPartitionedBy, IsPartitionPoint}
-use Rattle.std.proofs.lemmas.List.{get_or_read}
 use Rattle.abc_chunks.specs.Towers.{joined, pieces}
 use Rattle.abc_chunks.specs.inner.Spots.{in_front, piece_at}
 use Rattle.abc_chunks.proofs.Counts.{total_count}
@@ -17,8 +16,8 @@ place_in-place-requires g c =
     let here = c.as_slice-items.ensures.value ∙ ap (λ v. v.items) c.deref.ensures ∙ chunk_at t.chunks.items k c.index.result.now at c.index.ensures in
     subst (IsPartitionedBy (g.S.Seek.passes c.args.sought.now)) (sym here) (piece_parted (g.S.Seek.passes c.args.sought.now) (pieces t) k at c.requires.parted)
 
-pub index-requires-2 : goal.index-requires-2
-index-requires-2 g c = omega (arith, total_count c.args.self.now c.requires.sound.0, c.chunk_for-k.ensures.within)
+pub at-requires : goal.at-requires
+at-requires g c = omega (arith, total_count c.args.self.now c.requires.sound.0, c.chunk_for-k.ensures.within)
 
 pub overflow_sub-result-2 : goal.overflow_sub-result-2
 overflow_sub-result-2 g c =
@@ -27,8 +26,8 @@ overflow_sub-result-2 g c =
     let k = c.chunk_for-k.result in
     let at = c.chunk_for-k.ensures.within in
     let here = c.as_slice-items.ensures.value ∙ ap (λ v. v.items) c.deref.ensures ∙ chunk_at t.chunks.items k c.index.result.now at c.index.ensures in
-    let read = get_or_read t.totals.items (k + 1) c.index-2.result.now (omega (arith, total_count t c.requires.sound.0, t.totals.ok.0, at)) c.index-2.ensures 0 in
-    let end = ap (λ n. get_or t.totals.items n 0) (add-one k) ∙ ap (λ ts. get_or ts (suc k) 0) c.requires.sound.0 in
+    let read = c.at.ensures in
+    let end = ap (λ n. get_or t.totals n 0) (add-one k) ∙ ap (λ ts. get_or ts (suc k) 0) c.requires.sound.0 in
     omega (arith, read, end, total_at 0 xss (suc k) at, front_more xss k at, ap length here)
 
 pub returns-clause-within : goal.returns-clause-within
@@ -39,8 +38,8 @@ returns-clause-within g c =
     let n = c.place_in-place.result in
     let at = c.chunk_for-k.ensures.within in
     let here = c.as_slice-items.ensures.value ∙ ap (λ v. v.items) c.deref.ensures ∙ chunk_at t.chunks.items k c.index.result.now at c.index.ensures in
-    let read = get_or_read t.totals.items (k + 1) c.index-2.result.now (omega (arith, total_count t c.requires.sound.0, t.totals.ok.0, at)) c.index-2.ensures 0 in
-    let end = ap (λ n. get_or t.totals.items n 0) (add-one k) ∙ ap (λ ts. get_or ts (suc k) 0) c.requires.sound.0 in
+    let read = c.at.ensures in
+    let end = ap (λ n. get_or t.totals n 0) (add-one k) ∙ ap (λ ts. get_or ts (suc k) 0) c.requires.sound.0 in
     let inside : n ≤ length (piece_at xss k) = omega (arith, c.place_in-place.ensures.within, ap length here) in
     omega (arith, read, end, total_at 0 xss (suc k) at, front_more xss k at, ap length here, inside, place_within (g.S.Seek.passes c.args.sought.now) xss k n at inside)
 
@@ -53,9 +52,9 @@ returns-clause-place g c =
     let p = g.S.Seek.passes c.args.sought.now in
     let at = c.chunk_for-k.ensures.within in
     let here = c.as_slice-items.ensures.value ∙ ap (λ v. v.items) c.deref.ensures ∙ chunk_at t.chunks.items k c.index.result.now at c.index.ensures in
-    let read = get_or_read t.totals.items (k + 1) c.index-2.result.now (omega (arith, total_count t c.requires.sound.0, t.totals.ok.0, at)) c.index-2.ensures 0 in
-    let end = ap (λ n. get_or t.totals.items n 0) (add-one k) ∙ ap (λ ts. get_or ts (suc k) 0) c.requires.sound.0 in
+    let read = c.at.ensures in
+    let end = ap (λ n. get_or t.totals n 0) (add-one k) ∙ ap (λ ts. get_or ts (suc k) 0) c.requires.sound.0 in
     let inside : n ≤ length (piece_at xss k) = omega (arith, c.place_in-place.ensures.within, ap length here) in
-    let spot : c.index-2.result.now - (length c.as_slice-items.result.now - n) ≡ in_front xss k + n = omega (arith, read, end, total_at 0 xss (suc k) at, front_more xss k at, ap length here, inside) in
+    let spot : c.at.result - (length c.as_slice-items.result.now - n) ≡ in_front xss k + n = omega (arith, read, end, total_at 0 xss (suc k) at, front_more xss k at, ap length here, inside) in
     subst (IsPartitionPoint (λ x. p x ≡ true) (λ x. p x ≡ false) (joined xss)) (sym spot)
     (place_joined p xss k n c.chunk_for-k.ensures inside (subst (λ ys. IsPartitionPoint (λ x. p x ≡ true) (λ x. p x ≡ false) ys n) here c.place_in-place.ensures.place))

@@ -23,10 +23,10 @@ returns-in_err-put_in_chunk-clause-totals g c =
     c.requires.totals ∙ ap (λ xss. totals_from 0 (sizes xss)) (sym same)
 
 pub raise-requires-clause-from : goal.raise-requires-clause-from
-raise-requires-clause-from g c = omega (arith, total_count c.args.self.now c.requires.totals, c.args.self.now.totals.ok.0, c.requires.chunk)
+raise-requires-clause-from g c = omega (arith, total_count c.args.self.now c.requires.totals, c.requires.chunk)
 
 pub raise-requires-clause-fits : goal.raise-requires-clause-fits
-raise-requires-clause-fits g c = totals_small (2 ^ 64 - 1) (c.args.spot.chunk + 1) (pieces c.args.self.now) c.args.self.now.totals.items c.requires.totals c.requires.fits
+raise-requires-clause-fits g c = totals_small (2 ^ 64 - 1) (c.args.spot.chunk + 1) (pieces c.args.self.now) c.args.self.now.totals c.requires.totals c.requires.fits
 
 pub returns-clause-ok : goal.returns-clause-ok
 returns-clause-ok g c =

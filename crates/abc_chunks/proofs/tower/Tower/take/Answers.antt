@@ -23,13 +23,13 @@ returns-in_err-gone-clause-totals g c =
     c.requires.totals ∙ ap (λ xss. totals_from 0 (sizes xss)) (sym same)
 
 pub lower-requires-clause-from : goal.lower-requires-clause-from
-lower-requires-clause-from g c = omega (arith, total_count c.args.self.now c.requires.totals, c.args.self.now.totals.ok.0, c.requires.chunk)
+lower-requires-clause-from g c = omega (arith, total_count c.args.self.now c.requires.totals, c.requires.chunk)
 
 pub lower-requires-clause-some : goal.lower-requires-clause-some
 lower-requires-clause-some g c =
     let k = c.args.spot.chunk in
-    let P : ℕ → Type 0 = λ j. All (λ t. 1 ≤ t) (drop j c.args.self.now.totals.items) in
-    subst P (sym (add-one k)) (totals_some (pieces c.args.self.now) k c.args.self.now.totals.items c.requires.totals c.requires.chunk (omega (arith, c.requires.within)))
+    let P : ℕ → Type 0 = λ j. All (λ t. 1 ≤ t) (drop j c.args.self.now.totals) in
+    subst P (sym (add-one k)) (totals_some (pieces c.args.self.now) k c.args.self.now.totals c.requires.totals c.requires.chunk (omega (arith, c.requires.within)))
 
 pub returns-clause-value : goal.returns-clause-value
 returns-clause-value g c =
