@@ -17,6 +17,7 @@ ghost use Rattle.abc_pending.specs.Views.{Begins, begin_of, below_next, next_wei
 ghost use Rattle.abc_pending.specs.Weights.{expr_size, exprs_size, actual_weight};
 
 use abc_frames::Targets;
+use abc_num::Boxed;
 use abc_pending::{ForAction, ForActual, ForSpot, Job, Next, Place, Reply, Waiting, Wanted, Work};
 use abc_state::{
     Actual, Halt, Run, Scope, Spot, composed, located, name_actual, place as place_of, there,
@@ -236,7 +237,12 @@ pub fn find_row<'a>(
 }
 
 /// How it goes on with the actual for which it waited.
-pub fn take_actual<'a>(place: Place, frame: ForActual<'a>, actual: Actual) -> Result<Next<'a>, Halt>
+pub fn take_actual<'a>(
+    alloc: Global,
+    place: Place,
+    frame: ForActual<'a>,
+    actual: Actual,
+) -> Result<Next<'a>, Halt>
     ensures leads { (units : List Routine) (scope : Names) (s : State) → Begins units scope place.line result s (resume_actual units (meaning units place.levels) (at scope place.line) (actual_frame frame.entry) (actual_of actual) s) }
     ensures scope { (scope : Names) → IfOk result (λ next. below_next scope next ≡ scope) }
     ensures falls { IfOk result (λ next. next_weight next < actual_weight (actual_frame frame.entry)) }
@@ -245,6 +251,7 @@ pub fn take_actual<'a>(place: Place, frame: ForActual<'a>, actual: Actual) -> Re
         ForActual::ActualTable(key) => {
             let Actual { value, address } = actual;
             let table = there(value)?;
+            let table = Boxed::new(alloc, table)?;
             Ok(Next::Wait(
                 Waiting::Action(place, ForAction::PartActual(table, address)),
                 Work(place, Job::See(key)),

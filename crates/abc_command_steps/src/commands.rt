@@ -19,6 +19,7 @@ ghost use Rattle.abc_pending.specs.Weights.{Falls, action_weight, address_weight
 use crate::performing::change_to;
 use abc_acts::{Train, bind, delete, insert, put, remove};
 use abc_frames::Targets;
+use abc_num::Boxed;
 use abc_pending::{
     Changes, ForAction, ForFlow, ForSpot, ForTruth, Job, Next, Place, Reply, Waiting, Work,
 };
@@ -138,6 +139,7 @@ fn turn_over<'a>(
 {
     run.spend()?;
     bind(alloc, scope, run, targets, bound, element)?;
+    let elements = Boxed::new(alloc, elements)?;
     Ok(Next::Wait(
         Waiting::Flow(place, ForFlow::ForBody(bound, suite, elements)),
         Work(place, Job::PerformAll(suite, 0)),
@@ -264,7 +266,7 @@ pub fn take_action<'a>(
     match frame {
         ForAction::PlainActual => Ok(Next::Give(Reply::Actual(located(value, None)))),
         ForAction::PartActual(table, spot) => {
-            let part = selected(alloc, &table, &value)?;
+            let part = selected(alloc, table.get(), &value)?;
             let spot = stepped(spot, value)?;
             Ok(Next::Give(Reply::Actual(located(part, spot))))
         }
@@ -281,6 +283,7 @@ pub fn take_action<'a>(
         }
         ForAction::ForTrain(bound, suite) => {
             let train = Train::of(alloc, value)?;
+            let train = Boxed::new(alloc, train)?;
             Ok(Next::Go(Work(place, Job::TurnsOver(bound, suite, train))))
         }
         ForAction::ReturnValue => Ok(Next::Give(Reply::Went(Exit::Returns(value)))),

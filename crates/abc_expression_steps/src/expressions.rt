@@ -10,11 +10,12 @@ ghost use Rattle.abc_meaning.specs.Value.{name_value, value_with};
 ghost use Rattle.abc_meaning.specs.Meaning.{meaning};
 ghost use Rattle.abc_state.specs.Views.{at, scope_of, state_of, filling_of, tabling_of, wording_of};
 ghost use Rattle.abc_pending.specs.Leads.{as_val, gathered, doing, resume_expression};
-ghost use Rattle.abc_pending.specs.Pending.{apply_left, apply_one, converted, filler, pair_associate, range_to, see_row, spell, fill, fill_table};
+ghost use Rattle.abc_pending.specs.Pending.{apply_left, apply_one, converted, filler, pair_associate, pair_key, range_from, range_to, see_row, spell, fill, fill_table};
 ghost use Rattle.abc_pending.specs.Views.{Begins, begin_of, below_next, next_weight, purpose_of, expression_frame};
 ghost use Rattle.abc_pending.specs.Weights.{expr_size, exprs_size, pieces_size, fills_size, pairs_size, expression_weight};
 
 use abc_frames::Targets;
+use abc_num::Boxed;
 use abc_pending::{
     ForExpression, Job, Next, Place, Purpose, Reply, Waiting, Wanted, Work, value_at_once,
 };
@@ -75,14 +76,8 @@ fn see_node<'a>(
             Job::SeeRow(Purpose::Compound, es.as_slice(), Vec::new(alloc)),
         ))),
         Expr::Empty => Ok(Next::Give(Reply::Val(Value::empty(alloc)))),
-        Expr::List(fills) => Ok(Next::Go(Work(
-            place,
-            Job::Fill(fills.as_slice(), Filling::new(alloc)),
-        ))),
-        Expr::Table(pairs) => Ok(Next::Go(Work(
-            place,
-            Job::FillTable(pairs.as_slice(), Tabling::new(alloc)),
-        ))),
+        Expr::List(fills) => see_list(alloc, place, fills.as_slice()),
+        Expr::Table(pairs) => see_table(alloc, place, pairs.as_slice()),
         Expr::Select(t, k) => Ok(Next::Wait(
             Waiting::Expression(place, ForExpression::SelectTable(k.get())),
             Work(place, Job::See(t.get())),
@@ -96,6 +91,26 @@ fn see_node<'a>(
         }
         Expr::Call(template, es) => Ok(see_call(alloc, place, template, es.as_slice())),
     }
+}
+
+/// A list display, of which nothing is evaluated yet.
+fn see_list<'a>(alloc: Global, place: Place, fills: &'a [Fill]) -> Result<Next<'a>, Halt>
+    ensures leads { (units : List Routine) (scope : Names) (s : State) → Begins units scope place.line result s (as_val (value_with units (meaning units place.levels) (at scope place.line) (Expr-F.List fills.now) s)) }
+    ensures scope { (scope : Names) → IfOk result (λ next. below_next scope next ≡ scope) }
+    ensures falls { IfOk result (λ next. next_weight next < 3 + fills_size fills.now) }
+{
+    let found = Boxed::new(alloc, Filling::new(alloc))?;
+    Ok(Next::Go(Work(place, Job::Fill(fills, found))))
+}
+
+/// A table display, of which nothing is evaluated yet.
+fn see_table<'a>(alloc: Global, place: Place, pairs: &'a [Pair]) -> Result<Next<'a>, Halt>
+    ensures leads { (units : List Routine) (scope : Names) (s : State) → Begins units scope place.line result s (as_val (value_with units (meaning units place.levels) (at scope place.line) (Expr-F.Table pairs.now) s)) }
+    ensures scope { (scope : Names) → IfOk result (λ next. below_next scope next ≡ scope) }
+    ensures falls { IfOk result (λ next. next_weight next < 3 + pairs_size pairs.now) }
+{
+    let found = Boxed::new(alloc, Tabling::new(alloc))?;
+    Ok(Next::Go(Work(place, Job::FillTable(pairs, found))))
 }
 
 /// A name: of an expression refinement, which is work of its own, or of a target.
@@ -258,7 +273,7 @@ pub fn fill<'a>(
     alloc: Global,
     place: Place,
     fills: &'a [Fill],
-    found: Filling,
+    found: Boxed<Filling>,
 ) -> Result<Next<'a>, Halt>
     ensures leads { (units : List Routine) (scope : Names) (s : State) → Begins units scope place.line result s (doing units (meaning units place.levels) (at scope place.line) (fill fills.now (filling_of found)) s) }
     ensures scope { (scope : Names) → IfOk result (λ next. below_next scope next ≡ scope) }
@@ -266,7 +281,7 @@ pub fn fill<'a>(
 {
     match fills {
         [] => {
-            let list = found.display(alloc)?;
+            let list = found.into_inner().display(alloc)?;
             Ok(Next::Give(Reply::Val(list)))
         }
         [Fill::One(e), others @ ..] => Ok(Next::Wait(
@@ -285,7 +300,7 @@ pub fn fill_table<'a>(
     alloc: Global,
     place: Place,
     pairs: &'a [Pair],
-    found: Tabling,
+    found: Boxed<Tabling>,
 ) -> Result<Next<'a>, Halt>
     ensures leads { (units : List Routine) (scope : Names) (s : State) → Begins units scope place.line result s (doing units (meaning units place.levels) (at scope place.line) (fill_table pairs.now (tabling_of found)) s) }
     ensures scope { (scope : Names) → IfOk result (λ next. below_next scope next ≡ scope) }
@@ -293,7 +308,7 @@ pub fn fill_table<'a>(
 {
     match pairs {
         [] => {
-            let table = found.display(alloc)?;
+            let table = found.into_inner().display(alloc)?;
             Ok(Next::Give(Reply::Val(table)))
         }
         [pair, others @ ..] => Ok(Next::Wait(
@@ -324,17 +339,15 @@ pub fn take_value<'a>(
         }
         ForExpression::Converted(others, found) => take_piece(alloc, place, others, found, value),
         ForExpression::Filler(others, found) => take_filler(alloc, place, others, found, value),
-        ForExpression::RangeFrom(last, others, found) => Ok(Next::Wait(
-            Waiting::Expression(place, ForExpression::RangeTo(value, others, found)),
-            Work(place, Job::See(last)),
-        )),
+        ForExpression::RangeFrom(last, others, found) => {
+            take_first(alloc, place, last, others, found, value)
+        }
         ForExpression::RangeTo(first, others, found) => {
             take_range(alloc, place, first, others, found, value)
         }
-        ForExpression::PairKey(associate, others, found) => Ok(Next::Wait(
-            Waiting::Expression(place, ForExpression::PairAssociate(value, others, found)),
-            Work(place, Job::See(associate)),
-        )),
+        ForExpression::PairKey(associate, others, found) => {
+            take_key(alloc, place, associate, others, found, value)
+        }
         ForExpression::PairAssociate(key, others, found) => {
             take_pair(alloc, place, key, others, found, value)
         }
@@ -374,19 +387,40 @@ fn take_piece<'a>(
     Ok(Next::Go(Work(place, Job::Spell(others, found))))
 }
 
+/// The first end of a range waits for the last.
+fn take_first<'a>(
+    alloc: Global,
+    place: Place,
+    last: &'a Expr,
+    others: &'a [Fill],
+    found: Boxed<Filling>,
+    value: Value,
+) -> Result<Next<'a>, Halt>
+    ensures leads { (units : List Routine) (scope : Names) (s : State) → Begins units scope place.line result s (resume_expression units (meaning units place.levels) (at scope place.line) (range_from last.now others.now (filling_of found)) value s) }
+    ensures scope { (scope : Names) → IfOk result (λ next. below_next scope next ≡ scope) }
+    ensures falls { IfOk result (λ next. next_weight next < 5 + expr_size last.now + fills_size others.now) }
+{
+    let first = Boxed::new(alloc, value)?;
+    Ok(Next::Wait(
+        Waiting::Expression(place, ForExpression::RangeTo(first, others, found)),
+        Work(place, Job::See(last)),
+    ))
+}
+
 /// A list display goes on behind a filler that is one value.
 fn take_filler<'a>(
     alloc: Global,
     place: Place,
     others: &'a [Fill],
-    found: Filling,
+    found: Boxed<Filling>,
     value: Value,
 ) -> Result<Next<'a>, Halt>
     ensures leads { (units : List Routine) (scope : Names) (s : State) → Begins units scope place.line result s (resume_expression units (meaning units place.levels) (at scope place.line) (filler others.now (filling_of found)) value s) }
     ensures scope { (scope : Names) → IfOk result (λ next. below_next scope next ≡ scope) }
     ensures falls { IfOk result (λ next. next_weight next < 3 + fills_size others.now) }
 {
-    let found = found.with_one(alloc, value)?;
+    let found = found.into_inner().with_one(alloc, value)?;
+    let found = Boxed::new(alloc, found)?;
     Ok(Next::Go(Work(place, Job::Fill(others, found))))
 }
 
@@ -394,33 +428,57 @@ fn take_filler<'a>(
 fn take_range<'a>(
     alloc: Global,
     place: Place,
-    first: Value,
+    first: Boxed<Value>,
     others: &'a [Fill],
-    found: Filling,
+    found: Boxed<Filling>,
     value: Value,
 ) -> Result<Next<'a>, Halt>
     ensures leads { (units : List Routine) (scope : Names) (s : State) → Begins units scope place.line result s (resume_expression units (meaning units place.levels) (at scope place.line) (range_to first others.now (filling_of found)) value s) }
     ensures scope { (scope : Names) → IfOk result (λ next. below_next scope next ≡ scope) }
     ensures falls { IfOk result (λ next. next_weight next < 3 + fills_size others.now) }
 {
-    let found = found.with_range(alloc, &first, &value)?;
+    let found = found.into_inner().with_range(alloc, first.get(), &value)?;
+    let found = Boxed::new(alloc, found)?;
     Ok(Next::Go(Work(place, Job::Fill(others, found))))
+}
+
+/// The key of a pair waits for the associate.
+fn take_key<'a>(
+    alloc: Global,
+    place: Place,
+    associate: &'a Expr,
+    others: &'a [Pair],
+    found: Boxed<Tabling>,
+    value: Value,
+) -> Result<Next<'a>, Halt>
+    ensures leads { (units : List Routine) (scope : Names) (s : State) → Begins units scope place.line result s (resume_expression units (meaning units place.levels) (at scope place.line) (pair_key associate.now others.now (tabling_of found)) value s) }
+    ensures scope { (scope : Names) → IfOk result (λ next. below_next scope next ≡ scope) }
+    ensures falls { IfOk result (λ next. next_weight next < 5 + expr_size associate.now + pairs_size others.now) }
+{
+    let key = Boxed::new(alloc, value)?;
+    Ok(Next::Wait(
+        Waiting::Expression(place, ForExpression::PairAssociate(key, others, found)),
+        Work(place, Job::See(associate)),
+    ))
 }
 
 /// A table display goes on behind a pair, with the associate of its key.
 fn take_pair<'a>(
     alloc: Global,
     place: Place,
-    key: Value,
+    key: Boxed<Value>,
     others: &'a [Pair],
-    found: Tabling,
+    found: Boxed<Tabling>,
     value: Value,
 ) -> Result<Next<'a>, Halt>
     ensures leads { (units : List Routine) (scope : Names) (s : State) → Begins units scope place.line result s (resume_expression units (meaning units place.levels) (at scope place.line) (pair_associate key others.now (tabling_of found)) value s) }
     ensures scope { (scope : Names) → IfOk result (λ next. below_next scope next ≡ scope) }
     ensures falls { IfOk result (λ next. next_weight next < 3 + pairs_size others.now) }
 {
-    let found = found.with_pair(alloc, key, value)?;
+    let found = found
+        .into_inner()
+        .with_pair(alloc, key.into_inner(), value)?;
+    let found = Boxed::new(alloc, found)?;
     Ok(Next::Go(Work(place, Job::FillTable(others, found))))
 }
 

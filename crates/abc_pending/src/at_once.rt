@@ -1,12 +1,12 @@
 //! Values that are found at once, without work of their own.
-ghost use Rattle.std.specs.Prelude.{ℕ, Bool, List};
+ghost use Rattle.std.specs.Prelude.{◌≡◌, ℕ, Bool, List, IfOk, is_some};
 ghost use Rattle.abc_num.specs.declared.lines.RawLine.{RawLine};
 ghost use Rattle.abc_tree.specs.declared.formulas.Expr.{out-Expr};
 ghost use Rattle.abc_tree.specs.declared.commands.Unit.{Unit as Routine};
 ghost use Rattle.abc_meaning.specs.Value.{value_with};
 ghost use Rattle.abc_meaning.specs.Meaning.{meaning};
 ghost use Rattle.abc_state.specs.Views.{at, scope_of, state_of};
-ghost use Rattle.abc_pending.specs.Views.{Tells};
+ghost use Rattle.abc_pending.specs.Views.{Tells, is_at_once};
 
 use crate::place::Place;
 use abc_frames::Targets;
@@ -23,7 +23,8 @@ pub fn value_at_once(
     run: &Run,
     targets: &Targets,
 ) -> Result<Option<Value>, Halt>
-    ensures { (units : List Routine) (lines : List RawLine) (ended : Bool) → Tells place.line result (state_of run.now targets.now lines ended) ((meaning units place.levels).value (at (scope_of scope.now) place.line) e.now (state_of run.now targets.now lines ended)) }
+    ensures tells { (units : List Routine) (lines : List RawLine) (ended : Bool) → Tells place.line result (state_of run.now targets.now lines ended) ((meaning units place.levels).value (at (scope_of scope.now) place.line) e.now (state_of run.now targets.now lines ended)) }
+    ensures at_once { IfOk result (λ found. is_some found ≡ is_at_once (scope_of scope.now) (out-Expr e.now)) }
 {
     if place.levels == 0 {
         return Err(Halt::Fault(RunFault::TooDeep));
@@ -38,7 +39,8 @@ fn value_of_leaf(
     run: &Run,
     targets: &Targets,
 ) -> Result<Option<Value>, Halt>
-    ensures { (units : List Routine) (levels : ℕ) (line : ℕ) (lines : List RawLine) (ended : Bool) → Tells line result (state_of run.now targets.now lines ended) (value_with units (meaning units levels) (at (scope_of scope.now) line) (out-Expr e.now) (state_of run.now targets.now lines ended)) }
+    ensures tells { (units : List Routine) (levels : ℕ) (line : ℕ) (lines : List RawLine) (ended : Bool) → Tells line result (state_of run.now targets.now lines ended) (value_with units (meaning units levels) (at (scope_of scope.now) line) (out-Expr e.now) (state_of run.now targets.now lines ended)) }
+    ensures at_once { IfOk result (λ found. is_some found ≡ is_at_once (scope_of scope.now) (out-Expr e.now)) }
 {
     match e {
         Expr::Number(n) => Ok(Some(Value::number(*n))),

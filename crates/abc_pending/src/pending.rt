@@ -33,11 +33,11 @@ pub enum Purpose<'a> {
 pub enum ForExpression<'a> {
     RowValue(Purpose<'a>, &'a [Expr], Vec<Value>),
     Converted(&'a [Piece], Wording),
-    Filler(&'a [Fill], Filling),
-    RangeFrom(&'a Expr, &'a [Fill], Filling),
-    RangeTo(Value, &'a [Fill], Filling),
-    PairKey(&'a Expr, &'a [Pair], Tabling),
-    PairAssociate(Value, &'a [Pair], Tabling),
+    Filler(&'a [Fill], Boxed<Filling>),
+    RangeFrom(&'a Expr, &'a [Fill], Boxed<Filling>),
+    RangeTo(Boxed<Value>, &'a [Fill], Boxed<Filling>),
+    PairKey(&'a Expr, &'a [Pair], Boxed<Tabling>),
+    PairAssociate(Boxed<Value>, &'a [Pair], Boxed<Tabling>),
     SelectTable(&'a Expr),
     SelectKey(Value),
     ApplyOne(Op),
@@ -49,7 +49,7 @@ pub enum ForExpression<'a> {
 #[derive(Drop)]
 pub enum ForTest<'a> {
     ChainFirst(&'a [Link]),
-    ChainNext(Value, Op, &'a [Link]),
+    ChainNext(Boxed<Value>, Op, &'a [Link]),
     MemberLeft(Op, &'a Expr),
     MemberRight(Op, Value),
     Train(Quantifier, &'a Bound, &'a Boxed<Test>),
@@ -59,7 +59,7 @@ pub enum ForTest<'a> {
 #[derive(Drop)]
 pub enum ForAction<'a> {
     PlainActual,
-    PartActual(Value, Option<Spot>),
+    PartActual(Boxed<Value>, Option<Spot>),
     SpotKey(Option<Spot>),
     WriteBetween(u32, u32),
     ChangeValue(Changes, &'a Expr),
@@ -74,7 +74,7 @@ pub enum ForTruth<'a> {
     AndThen(&'a Boxed<Test>),
     OrElse(&'a Boxed<Test>),
     /// The test of an element, with what the names had before, and the elements behind it.
-    ElementTest(Quantifier, &'a Bound, &'a Boxed<Test>, Items<Held>, Train),
+    ElementTest(Quantifier, &'a Bound, &'a Boxed<Test>, Items<Held>, Boxed<Train>),
     CheckTest,
     IfTest(&'a Suite),
     /// The suite of the alternative, and those behind it, which begin at this place.
@@ -98,7 +98,7 @@ pub enum ForFlow<'a> {
     RefinementEnd(Wanted, Kept, CallNames),
     Refined,
     WhileBody(u64, &'a Test, &'a Suite),
-    ForBody(&'a Bound, &'a Suite, Train),
+    ForBody(&'a Bound, &'a Suite, Boxed<Train>),
     /// The commands of a suite from this place on.
     SuiteRest(&'a Suite, usize),
 }
@@ -144,10 +144,10 @@ pub enum Job<'a> {
     PerformAll(&'a Suite, usize),
     SeeRow(Purpose<'a>, &'a [Expr], Vec<Value>),
     Spell(&'a [Piece], Wording),
-    Fill(&'a [Fill], Filling),
-    FillTable(&'a [Pair], Tabling),
-    Compare(Value, &'a [Link]),
-    Quantify(Quantifier, &'a Bound, &'a Boxed<Test>, Items<Held>, Train),
+    Fill(&'a [Fill], Boxed<Filling>),
+    FillTable(&'a [Pair], Boxed<Tabling>),
+    Compare(Boxed<Value>, &'a [Link]),
+    Quantify(Quantifier, &'a Bound, &'a Boxed<Test>, Items<Held>, Boxed<Train>),
     SeeFields(&'a [Expr], Vec<Value>, Vec<Option<Spot>>),
     SeeActuals(&'a Template, &'a [Expr], Vec<Actual>),
     /// The number bounds the height of the address.
@@ -157,7 +157,7 @@ pub enum Job<'a> {
     Choose(&'a Alternatives, usize),
     /// A turn of WHILE, behind which so many may come.
     Turn(u64, &'a Test, &'a Suite),
-    TurnsOver(&'a Bound, &'a Suite, Train),
+    TurnsOver(&'a Bound, &'a Suite, Boxed<Train>),
     Enter(Wanted, &'a Template, Vec<Value>),
     /// The expression or test refinement that a name is.
     Refine(Wanted, u32),

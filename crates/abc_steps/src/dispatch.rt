@@ -99,10 +99,15 @@ fn begin_job<'a>(
         Job::Spell(pieces, found) => spell(alloc, place, pieces, found),
         Job::Fill(fills, found) => fill(alloc, place, fills, found),
         Job::FillTable(pairs, found) => fill_table(alloc, place, pairs, found),
-        Job::Compare(value, links) => compare(alloc, scope, place, value, links, run, targets),
-        Job::Quantify(quantifier, bound, test, before, train) => quantify(
-            alloc, scope, place, quantifier, bound, test, before, train, run, targets,
-        ),
+        Job::Compare(value, links) => {
+            compare(alloc, scope, place, value.into_inner(), links, run, targets)
+        }
+        Job::Quantify(quantifier, bound, test, before, train) => {
+            let train = train.into_inner();
+            quantify(
+                alloc, scope, place, quantifier, bound, test, before, train, run, targets,
+            )
+        }
         Job::SeeFields(es, values, spots) => see_fields(alloc, place, es, values, spots),
         Job::SeeActuals(template, es, found) => see_actuals(place, template, es, found),
         Job::Find(high, e) => Ok(find(alloc, place, high, e)),
@@ -110,6 +115,7 @@ fn begin_job<'a>(
         Job::Choose(all, at) => choose(scope, place, all, at),
         Job::Turn(turns, test, suite) => turn(scope, place, turns, test, suite, run, targets),
         Job::TurnsOver(bound, suite, train) => {
+            let train = train.into_inner();
             turns_over(alloc, scope, place, bound, suite, train, run, targets)
         }
         Job::Enter(wanted, template, actuals) => enter(
@@ -209,7 +215,7 @@ fn take_reply<'a>(
             None => Err(Halt::Wrong),
         },
         Waiting::Actual(place, frame) => match actual_in(reply) {
-            Some(actual) => take_actual(place, frame, actual),
+            Some(actual) => take_actual(alloc, place, frame, actual),
             None => Err(Halt::Wrong),
         },
         Waiting::Spot(place, frame) => match spot_in(reply) {

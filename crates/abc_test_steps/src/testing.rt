@@ -174,6 +174,7 @@ fn over_train<'a>(
     ensures falls { IfOk result (λ next. next_weight next < 3 + test_size test.now) }
 {
     let train = Train::of(alloc, value)?;
+    let train = Boxed::new(alloc, train)?;
     let before = keep_names(alloc, scope, run, targets, bound)?;
     Ok(Next::Go(Work(place, Job::Quantify(quantifier, bound, test, before, train))))
 }
@@ -196,7 +197,10 @@ fn take_link<'a>(
     }
     match links {
         [] => Ok(Next::Give(Reply::Truth(true))),
-        [_next, ..] => Ok(Next::Go(Work(place, Job::Compare(value, links)))),
+        [_next, ..] => {
+            let value = Boxed::new(alloc, value)?;
+            Ok(Next::Go(Work(place, Job::Compare(value, links))))
+        }
     }
 }
 
@@ -215,8 +219,13 @@ pub fn take_test<'a>(
     ensures falls { IfOk result (λ next. next_weight next < test_weight (test_frame frame.entry)) }
 {
     match frame {
-        ForTest::ChainFirst(links) => Ok(Next::Go(Work(place, Job::Compare(value, links)))),
-        ForTest::ChainNext(left, op, links) => { take_link(alloc, place, &left, op, links, value) }
+        ForTest::ChainFirst(links) => {
+            let value = Boxed::new(alloc, value)?;
+            Ok(Next::Go(Work(place, Job::Compare(value, links))))
+        }
+        ForTest::ChainNext(left, op, links) => {
+            take_link(alloc, place, left.get(), op, links, value)
+        }
         ForTest::MemberLeft(op, train) => Ok(Next::Wait(
             Waiting::Test(place, ForTest::MemberRight(op, value)),
             Work(place, Job::See(train)),
@@ -381,10 +390,13 @@ fn see_link<'a>(
 {
     match value_at_once(scope, place, right, run, targets)? {
         Some(value) => take_link(alloc, place, &left, op, others, value),
-        None => Ok(Next::Wait(
-            Waiting::Test(place, ForTest::ChainNext(left, op, others)),
-            Work(place, Job::See(right)),
-        )),
+        None => {
+            let left = Boxed::new(alloc, left)?;
+            Ok(Next::Wait(
+                Waiting::Test(place, ForTest::ChainNext(left, op, others)),
+                Work(place, Job::See(right)),
+            ))
+        }
     }
 }
 
@@ -441,6 +453,7 @@ fn test_element<'a>(
 {
     run.spend()?;
     bind(alloc, scope, run, targets, bound, element)?;
+    let elements = Boxed::new(alloc, elements)?;
     Ok(Next::Wait(
         Waiting::Truth(
             place,
