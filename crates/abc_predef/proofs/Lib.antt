@@ -18,4 +18,5 @@ pub mod TextRows
 pub mod TrainRows
 pub mod Typed
 pub mod Taking
+pub mod TwoNumbers
 pub mod ResultTypes

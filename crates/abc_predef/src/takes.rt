@@ -1,6 +1,6 @@
 //! Whether the row of an operation takes its operands, decided by their shapes.
 ghost use Rattle.std.specs.Prelude.{◌≡◌, ◌↔◌, ◌∷◌, [], IfOk, IsTrue, Some, is_some};
-ghost use Rattle.abc_value.specs.Forms.{form_of, joined};
+ghost use Rattle.abc_value.specs.Forms.{a_number, form_of, joined};
 ghost use Rattle.abc_predef.specs.Signatures.{operands};
 ghost use Rattle.abc_predef.specs.Takes.{AreTaken};
 ghost use Rattle.abc_predef.specs.Taken.{any_of, element_of, are_taken};
@@ -10,7 +10,7 @@ use crate::lookup::row;
 use crate::table::{Letter, Operands};
 use abc_num::OutOfMemory;
 use abc_tree::Op;
-use abc_value::{Shape, Value};
+use abc_value::{Kind, Shape, Value};
 use std::alloc::Global;
 
 /// Whether the row `op` has one place and takes the operand. The operand is gone through once.
@@ -62,8 +62,48 @@ fn pattern(alloc: Global, letter: Letter) -> Result<Shape, OutOfMemory>
     }
 }
 
-/// Whether the values have types for which the letters stand, with one type e for both.
+/// Whether the values have types for which the letters stand, with one type e for both. Two numbers need no shapes.
+#[tactic(auto, using(crate::proofs::TwoNumbers::form_of_number))]
 fn have_element(
+    alloc: Global,
+    left: Letter,
+    right: Letter,
+    x: &Value,
+    y: &Value,
+) -> Result<bool, OutOfMemory>
+    requires left { IsOfTwo left }
+    requires right { IsOfTwo right }
+    ensures { IfOk result (λ b. b ≡ is_some (joined (element_of left (form_of x.now)) (element_of right (form_of y.now)))) }
+{
+    match (x.kind(), y.kind()) {
+        (Kind::Number, Kind::Number) => Ok(have_numbers(left, right)),
+        _ => have_shapes(alloc, left, right, x, y),
+    }
+}
+
+/// The same of two numbers, whose shapes are known.
+#[tactic(auto, using(crate::proofs::TwoNumbers::none_taken, crate::proofs::TwoNumbers::both_taken))]
+fn have_numbers(left: Letter, right: Letter) -> bool
+    ensures { result ≡ is_some (joined (element_of left (Some a_number)) (element_of right (Some a_number))) }
+{
+    if !has_number(left) {
+        return false;
+    }
+    has_number(right)
+}
+
+/// Whether numbers have a type for which the letter stands.
+fn has_number(letter: Letter) -> bool
+    ensures { result ≡ is_some (element_of letter (Some a_number)) }
+{
+    match letter {
+        Letter::Number | Letter::Element => true,
+        Letter::Text | Letter::Train | Letter::Table | Letter::List | Letter::Words => false,
+    }
+}
+
+/// The same of any two values, by their shapes.
+fn have_shapes(
     alloc: Global,
     left: Letter,
     right: Letter,
