@@ -1,5 +1,5 @@
 -- The number falls, whatever waits below.
-use Rattle.std.proofs.Common.{◌≡◌, ◌<◌, ℕ, zero, suc, ◌+◌, ◌*◌, ◌^◌, List, inl, inr, Result, Ok, Err, refl, sym, arith}
+use Rattle.std.proofs.Common.{◌≡◌, ◌<◌, ℕ, zero, suc, ◌+◌, ◌*◌, ◌^◌, List, inl, inr, Result, Ok, Err, refl, sym, ap, arith}
 use Rattle.std.proofs.Math.Nat.{mul-lt-mul_of_pos_right, add-mul, mul-add, mul_comm, mul_assoc, pow-zero, pow-suc, pow-succ', zero-mul}
 use Rattle.std.proofs.Math.Numerals.{add-one}
 use Rattle.abc_tree.specs.declared.commands.Unit.{Unit as Routine}
@@ -52,3 +52,13 @@ lessens us (Ok (Goes d)) fs w a l b k h f =
     rw h less
 lessens us (Ok (Ends o)) fs w a l b k h f = tt
 lessens us (Err e) fs w a l b k h f = tt
+
+-- the number after a reply that is given at once
+pub lessens_on : (us : List Routine) (r : Result Moved RunStop) (fs : List Frame) (w a l l2 b k : ℕ) → a ≡ 0 → Lessens us r fs l w l2 → Falls us l2 a k b → Lessens us r fs l (b + w) k
+lessens_on us (Ok (Goes d)) fs w a l l2 b k e h f =
+    let less = number_falls us w a l2 b k f in
+    let light : a + w ≡ w = omega arith in
+    let same : number_of us (a + w) l2 ≡ number_of us w l2 = ap (λ n. number_of us n l2) light in
+    omega arith
+lessens_on us (Ok (Ends o)) fs w a l l2 b k e h f = tt
+lessens_on us (Err x) fs w a l l2 b k e h f = tt

@@ -8,9 +8,10 @@ use Rattle.abc_meaning.specs.Ran.{Outcome as Meant, stopped}
 use Rattle.abc_pending.specs.Leads.{below, leads, now, resume}
 use Rattle.abc_pending.specs.Weights.{IsWithin}
 use Rattle.abc_pending.specs.Steps.{Starts, WantsLine}
-use Rattle.abc_pending.specs.Views.{begin_of, below_next, frame_of, job_of}
+use Rattle.abc_pending.specs.Views.{begin_of, below_next, frame_of, job_of, reply_of}
 use Rattle.abc_pending.specs.declared.pending.Next.{Next}
-use Rattle.abc_pending.specs.declared.pending.Next.TheVariants.{Wait}
+use Rattle.abc_pending.specs.declared.pending.Next.TheVariants.{Give, Wait}
+use Rattle.abc_pending.specs.declared.pending.Reply.{Reply}
 use Rattle.abc_pending.specs.declared.pending.Waiting.{Waiting}
 use Rattle.abc_pending.specs.declared.pending.Work.{Work}
 use Rattle.abc_pending.specs.declared.stopped.Stopped.{Stopped}
@@ -95,3 +96,17 @@ ends_at units scope fs a o s e h =
 
 pub within_popped : (units : List Routine) (scope : Scope) (f : Frame) (fs all : List Frame) → all ≡ f ∷ fs → AreWithin units scope all → AreWithin units (below scope f) fs
 within_popped units scope f fs all e h = (subst (AreWithin units scope) e h).1
+
+-- a reply to which a piece of work has come is given at once
+module _ (units : List Routine) (scope old : Scope) (next : Next) (reply : Reply) (fs : List Frame) (is : next ≡ Give reply) (stands : below_next scope next ≡ old) where
+  here : scope ≡ old
+  here = sym (ap (below_next scope) is) ∙ stands
+
+  pub answered : (r : Result Moved RunStop) (new : Scope) (left : List Frame) (s t : State)
+      → Follows units new r left t (leads units scope fs (gives (reply_of reply) s)) → Follows units new r left t (leads units old fs (begin_of units scope next s))
+  answered r new left s t k =
+      subst (λ o. Follows units new r left t (leads units o fs (begin_of units scope next s))) here
+      (subst (λ n. Follows units new r left t (leads units scope fs (begin_of units scope n s))) (sym is) k)
+
+  pub within_here : AreWithin units old fs → AreWithin units scope fs
+  within_here h = subst (λ o. AreWithin units o fs) (sym here) h

@@ -15,7 +15,7 @@ ghost use Rattle.abc_pending.specs.Pending.{Answer, Frame};
 ghost use Rattle.abc_pending.specs.Leads.{leads, now};
 ghost use Rattle.abc_pending.specs.Steps.{state_with};
 ghost use Rattle.abc_pending.specs.Views.{begin_of, below_next, frame_of, job_of, next_weight, reply_of};
-ghost use Rattle.abc_pending.specs.Weights.{IsWithin, action_size, job_weight};
+ghost use Rattle.abc_pending.specs.Weights.{Falls, IsWithin, action_size, job_weight};
 ghost use Rattle.abc_pending.specs.declared.pending.Doing.TheVariants.{Item};
 ghost use Rattle.abc_pending.specs.declared.pending.Reply.TheVariants.{Went};
 ghost use Rattle.abc_machine.specs.Outcomes.{outcome_at, outcome_of, HasMemory};
@@ -136,6 +136,28 @@ fn answer<'a>(
     }
 }
 
+/// Goes on with what a piece of work has come to. A reply is given at once to what waits last.
+fn come_to<'a>(
+    alloc: Global,
+    scope: &mut Scope<'a>,
+    next: Next<'a>,
+    frames: &mut Stack<Waiting<'a>>,
+    run: &mut Run,
+    targets: &mut Targets,
+) -> Result<Moved<'a>, RunStop>
+    ensures leads { (units : List Routine) (old : Names) (lines : List RawLine) (ended : Bool) → below_next (scope_of scope.old) next.entry ≡ old → Follows units (scope_of scope.new) result (map frame_of frames.new) (state_of run.new targets.new lines ended) (leads units old (map frame_of frames.old) (begin_of units (scope_of scope.old) next.entry (state_of run.old targets.old lines ended))) }
+    ensures within { (units : List Routine) (old : Names) → below_next (scope_of scope.old) next.entry ≡ old → IsWithin units (scope_of scope.old) → AreWithin units old (map frame_of frames.old) → IfGoes result (AreWithin units (scope_of scope.new) (map frame_of frames.new)) }
+    ensures left { run.new.left ≡ run.old.left }
+    ensures falls { (units : List Routine) (weight left : ℕ) → Falls units run.old.left (next_weight next.entry) left weight → Lessens units result (map frame_of frames.new) run.new.left (weight + frames_weight (map frame_of frames.old)) left }
+    ensures well { EndsWell result }
+    ensures memory { IfErr result (λ e. e ≡ RunStop.Memory) }
+{
+    match next {
+        Next::Give(reply) => answer(alloc, scope, reply, frames, run, targets),
+        next => go_on(frames, next),
+    }
+}
+
 /// Begins some work.
 fn work_on<'a, L: Lines>(
     alloc: Global,
@@ -162,7 +184,7 @@ fn work_on<'a, L: Lines>(
     ensures failed { (IsErrOf result RunStop.Long ⊎ IsErrOf result RunStop.Input) → Failed L.failed (λ l. (l ≡ lines.old) × (wants_line (leads units.now (scope_of scope.old) (map frame_of frames.old) (now units.now (scope_of scope.old) work.entry.0 (job_of work.entry.1) (state_with run.old targets.old none_yet))) ≡ true)) lines.new }
 {
     match begin(alloc, units, scope, work, run, targets, lines) {
-        Ok(next) => go_on(frames, next),
+        Ok(next) => come_to(alloc, scope, next, frames, run, targets),
         Err(Stopped::Halted(stop)) => halted(stop),
         Err(Stopped::Long) => Err(RunStop::Long),
         Err(Stopped::Input) => Err(RunStop::Input),

@@ -3,3 +3,4 @@ pub mod Waits
 pub mod Beginning
 pub mod Ends
 pub mod Asking
+pub mod Behind

@@ -13,6 +13,7 @@ ghost use Rattle.abc_pending.specs.Steps.{state_with, IsNoCommand, Resumes, Star
 ghost use Rattle.abc_pending.specs.Views.{Begins, below_next, flow_frame, frame_line, frame_of, job_of, next_weight, reply_of};
 ghost use Rattle.abc_pending.specs.Weights.{Falls, IsWithin, action_size, flow_weight, frame_weight, job_weight};
 
+use crate::ahead::go_ahead;
 use abc_call_steps::{
     end_call, enter, enter_command, find, find_row, leave_with, refine, refine_command, see_actual,
     see_actuals, see_fields, take_actual,
@@ -33,9 +34,42 @@ use abc_test_steps::{compare, quantify, take_test, take_truth, try_test};
 use abc_tree::{Action, Units};
 use std::alloc::Global;
 
-/// How some work begins. The scope is afterwards that of the work that is next. Each takes at most one step, and walks over none of
-/// what waits.
+/// How some work begins, and goes on as far as it can at once. The scope is afterwards that of the work that is next. Each takes at most
+/// one step, and walks over none of what waits.
 pub fn begin<'a, L: Lines>(
+    alloc: Global,
+    units: &'a Units,
+    scope: &mut Scope<'a>,
+    work: Work<'a>,
+    run: &mut Run,
+    targets: &mut Targets,
+    lines: &mut L,
+) -> Result<Next<'a>, Stopped>
+    ensures may_be { (input : L.Input) → L.may_be input lines.new → L.may_be input lines.old }
+    ensures leads { (input : L.Input) → L.may_be input lines.new → Starts units.now (scope_of scope.new) result (state_with run.new targets.new (L.unread input lines.old)) (state_with run.new targets.new (L.unread input lines.new)) (now units.now (scope_of scope.old) work.entry.0 (job_of work.entry.1) (state_with run.old targets.old (L.unread input lines.old))) }
+    ensures scope { IfOk result (λ next. below_next (scope_of scope.new) next ≡ scope_of scope.old) }
+    ensures within { IsWithin units.now (scope_of scope.old) → IfOk result (λ _. IsWithin units.now (scope_of scope.new)) }
+    ensures left { (run.new.left ≤ run.old.left) × (run.old.left ≤ run.new.left + 1) }
+    ensures falls { IsWithin units.now (scope_of scope.old) → IfOk result (λ next. Falls units.now run.new.left (next_weight next) run.old.left (job_weight (job_of work.entry.1))) }
+    ensures bound { L.bound lines.new ≡ L.bound lines.old }
+    ensures taken { L.taken lines.old ≤ L.taken lines.new }
+    ensures long { IsErrOf result Stopped.Long → L.taken lines.new ≡ L.bound lines.new }
+    ensures input { IsErrOf result Stopped.Input → RoseByOne (L.faults lines.old) (L.faults lines.new) }
+    ensures faultless { ¬ (IsErrOf result Stopped.Input) → L.faults lines.new ≡ L.faults lines.old }
+    ensures calls { Called L.reads_on (λ l. (l ≡ lines.old) × (wants_line (now units.now (scope_of scope.old) work.entry.0 (job_of work.entry.1) (state_with run.old targets.old none_yet)) ≡ true)) lines.old lines.new }
+    ensures failed { (IsErrOf result Stopped.Long ⊎ IsErrOf result Stopped.Input) → Failed L.failed (λ l. (l ≡ lines.old) × (wants_line (now units.now (scope_of scope.old) work.entry.0 (job_of work.entry.1) (state_with run.old targets.old none_yet)) ≡ true)) lines.new }
+{
+    match begin_alone(alloc, units, scope, work, run, targets, lines) {
+        Ok(next) => match go_ahead(alloc, scope, next, run, targets) {
+            Ok(on) => Ok(on),
+            Err(halted) => Err(Stopped::Halted(halted)),
+        },
+        Err(stopped) => Err(stopped),
+    }
+}
+
+/// How some work begins.
+fn begin_alone<'a, L: Lines>(
     alloc: Global,
     units: &'a Units,
     scope: &mut Scope<'a>,
@@ -154,9 +188,30 @@ pub fn begin_item<'a, L: Lines>(
     perform(alloc, scope, place, action, run, lines)
 }
 
-/// How what waits goes on with a reply. A reply of another kind than it waits for fits no type. The scope is afterwards that of the
-/// work that is next.
+/// How what waits goes on with a reply, as far as it can at once. A reply of another kind than it waits for fits no type. The scope is
+/// afterwards that of the work that is next.
 pub fn take_up<'a>(
+    alloc: Global,
+    scope: &mut Scope<'a>,
+    frame: Waiting<'a>,
+    reply: Reply,
+    run: &mut Run,
+    targets: &mut Targets,
+) -> Result<Next<'a>, Halted>
+    ensures leads { (units : List Routine) (lines : List RawLine) (ended : Bool) → Resumes units (scope_of scope.new) result (state_of run.new targets.new lines ended) (resume units (below (scope_of scope.old) (frame_of frame.entry)) (frame_of frame.entry) (reply_of reply) (state_of run.old targets.old lines ended)) }
+    ensures scope { IfOk result (λ _. scope_of scope.new ≡ below (scope_of scope.old) (frame_of frame.entry)) }
+    ensures below { IfOk result (λ next. below_next (scope_of scope.new) next ≡ scope_of scope.new) }
+    ensures left { run.new.left ≡ run.old.left }
+    ensures falls { IfOk result (λ next. next_weight next < frame_weight (frame_of frame.entry)) }
+{
+    match resumed(alloc, scope, frame, reply, run, targets) {
+        Ok(next) => go_ahead(alloc, scope, next, run, targets),
+        Err(halted) => Err(halted),
+    }
+}
+
+/// How what waits begins to go on with a reply.
+pub(crate) fn resumed<'a>(
     alloc: Global,
     scope: &mut Scope<'a>,
     frame: Waiting<'a>,

@@ -13,13 +13,12 @@ use Rattle.abc_machine.proofs.moves.work_on.Goals as goal
 
 pub returns-in-Ok-clause-within : goal.returns-in-Ok-clause-within
 returns-in-Ok-clause-within g c = λ h.
-    c.go_on.ensures.within c.args.units.now (scope_of c.args.scope.now) (scope_of c.begin.new.scope) c.in-Ok.ensures.scope
+    c.come_to.ensures.within c.args.units.now (scope_of c.args.scope.now) c.in-Ok.ensures.scope
     (c.in-Ok.ensures.within (within_now c.args.units.now (scope_of c.args.scope.now) (map frame_of c.args.frames.now) h)) h
 
 pub returns-in-Ok-clause-falls : goal.returns-in-Ok-clause-falls
 returns-in-Ok-clause-falls g c = λ h.
-    lessens c.args.units.now c.go_on.result (map frame_of c.go_on.new.frames) (frames_weight (map frame_of c.args.frames.now)) (next_weight c.in-Ok.next) c.begin.new.run.left (job_weight (job_of c.args.work.1)) c.args.run.now.left
-    c.go_on.ensures.weighs (c.in-Ok.ensures.falls (within_now c.args.units.now (scope_of c.args.scope.now) (map frame_of c.args.frames.now) h))
+    c.come_to.ensures.falls c.args.units.now (job_weight (job_of c.args.work.1)) c.args.run.now.left (c.in-Ok.ensures.falls (within_now c.args.units.now (scope_of c.args.scope.now) (map frame_of c.args.frames.now) h))
 
 pub returns-in-Err-Long-clause-leads : goal.returns-in-Err-Long-clause-leads
 returns-in-Err-Long-clause-leads g c = λ input may.

@@ -1,10 +1,10 @@
--- Answers for begin.
+-- Answers for begin_alone.
 use Rattle.std.proofs.Common.{rules, refl, ap, drop, arith}
 use Rattle.abc_state.specs.Views.{scope_of}
 use Rattle.abc_pending.specs.Views.{job_of}
 use Rattle.abc_command_steps.proofs.Asking.{calls_as}
 use Rattle.abc_steps.proofs.Asking.{job_wants}
-use Rattle.abc_steps.proofs.dispatch.begin.Goals as goal
+use Rattle.abc_steps.proofs.dispatch.begin_alone.Goals as goal
 
 -- a suite calls as its first command does
 pub returns-in-Perform-clause-calls : goal.returns-in-Perform-clause-calls

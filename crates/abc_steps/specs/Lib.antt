@@ -1,0 +1,2 @@
+-- Words of the steps of the machine.
+pub mod Ahead
