@@ -1,14 +1,12 @@
--- What actuals and addresses mean where a level is left, and where none is.
-use Rattle.std.proofs.Common.{◌≡◌, ◌≢◌, ℕ, zero, suc, ◌-◌, None, List, refl}
+-- What actuals mean where a level is left, and where none is.
+use Rattle.std.proofs.Common.{◌≡◌, ◌≢◌, ℕ, zero, suc, ◌-◌, List, refl}
 use Rattle.std.proofs.Math.Numerals.{sub-one}
 use Rattle.abc_tree.specs.declared.formulas.Expr.{Expr, out-Expr}
 use Rattle.abc_tree.specs.declared.commands.Unit.{Unit as Routine}
 use Rattle.abc_value.specs.declared.faults.RunFault.TheVariants.{TooDeep}
-use Rattle.abc_meaning.specs.State.{State, faulty, stops, gives}
+use Rattle.abc_meaning.specs.State.{State, faulty, stops}
 use Rattle.abc_meaning.specs.Here.{Here}
-use Rattle.abc_meaning.specs.Deeper.{Deeper}
 use Rattle.abc_meaning.specs.Actuals.{actual_with}
-use Rattle.abc_meaning.specs.Addresses.{address_within, address_with}
 use Rattle.abc_meaning.specs.Meaning.{meaning}
 
 pub meaning_actual : (units : List Routine) (n : ℕ) (here : Here) (e : Expr) (s : State) → n ≢ 0 → (meaning units n).actual here e s ≡ actual_with units (meaning units (n - 1)) here (out-Expr e) s
@@ -20,14 +18,3 @@ pub actual_at_zero : (units : List Routine) (n : ℕ) (here : Here) (e : Expr) (
 unfolding meaning
 actual_at_zero units zero here e s h = refl
 actual_at_zero units (suc n) here e s h = cc
-
--- addresses, by the bound on their height
-pub address_next : (deep : Deeper) (here : Here) (n : ℕ) (e : Expr) (s : State) → n ≢ 0 → address_within deep here n e s ≡ address_with deep here (address_within deep here (n - 1)) (out-Expr e) s
-unfolding address_within
-address_next deep here zero e s h = absurd (h refl)
-address_next deep here (suc n) e s h = rw sub-one refl
-
-pub address_at_zero : (deep : Deeper) (here : Here) (n : ℕ) (e : Expr) (s : State) → n ≡ 0 → address_within deep here n e s ≡ gives None s
-unfolding address_within
-address_at_zero deep here zero e s h = refl
-address_at_zero deep here (suc n) e s h = cc

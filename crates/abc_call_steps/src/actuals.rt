@@ -129,7 +129,7 @@ fn see_parts<'a>(
 }
 
 /// The address that an expression is, if it is one. The number bounds its height.
-#[tactic(auto, using(crate::proofs::Levels::address_next, crate::proofs::Levels::address_at_zero))]
+#[tactic(auto, using(abc_pending::proofs::Levels::address_next, abc_pending::proofs::Levels::address_at_zero))]
 pub fn find<'a>(alloc: Global, place: Place, high: u32, e: &'a Expr) -> Next<'a>
     ensures leads { (units : List Routine) (scope : Names) (s : State) → as_address (address_within (meaning units place.levels) (at scope place.line) high e.now s) ≡ begin_of units scope result s }
     ensures scope { (scope : Names) → below_next scope result ≡ scope }

@@ -5,3 +5,4 @@ pub mod Fronts
 pub mod Reading
 pub mod Asking
 pub mod Alone
+pub mod Changing

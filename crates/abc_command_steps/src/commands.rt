@@ -22,10 +22,9 @@ use abc_frames::Targets;
 use abc_num::Boxed;
 use abc_pending::{
     Changes, ForAction, ForFlow, ForSpot, ForTruth, Job, Next, Place, Reply, Waiting, Work,
+    spot_at_once,
 };
-use abc_state::{
-    Exit, Halt, Run, Scope, Spot, located, place as place_of, selected, stepped, whole,
-};
+use abc_state::{Exit, Halt, Run, Scope, Spot, located, selected, stepped, whole};
 use abc_tree::{Bound, Expr, Suite, Test};
 use abc_value::{RunFault, Value};
 use std::alloc::Global;
@@ -186,8 +185,8 @@ fn change_there<'a>(
     Ok(Next::Give(Reply::Went(Exit::GoesOn)))
 }
 
-/// The same at the address that an expression is: at once where it is a name.
-#[tactic(auto, using(crate::proofs::Alone::name_goes))]
+/// The same at the address that an expression is: at once where it is found so.
+#[tactic(auto, using(crate::proofs::Changing::address_goes, crate::proofs::Changing::address_stops))]
 fn change_at<'a>(
     alloc: Global,
     scope: &Scope<'a>,
@@ -203,12 +202,10 @@ fn change_at<'a>(
     ensures left { run.new.left ≡ run.old.left }
     ensures falls { IfOk result (λ next. next_weight next < 3 + expr_size address.now) }
 {
-    match address {
-        Expr::Name(i) => {
-            let spot = place_of(alloc, i.0);
-            change_there(alloc, scope, place, what, value, &spot, run, targets)
-        }
-        _ => Ok(change_to(place, what, value, address)),
+    match spot_at_once(alloc, scope, place, address, run, targets) {
+        Ok(Some(spot)) => change_there(alloc, scope, place, what, value, &spot, run, targets),
+        Ok(None) => Ok(change_to(place, what, value, address)),
+        Err(halt) => Err(halt),
     }
 }
 

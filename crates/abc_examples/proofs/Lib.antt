@@ -12,3 +12,4 @@ pub mod Reading
 pub mod TypeLines
 pub mod Outcomes
 mod Told
+mod AtOnce

@@ -162,7 +162,7 @@ fn see_two<'a>(
     ensures scope { IfOk result (λ next. below_next (scope_of scope.now) next ≡ (scope_of scope.now)) }
     ensures falls { IfOk result (λ next. next_weight next < 4 + expr_size x.now + expr_size y.now) }
 {
-    match value_at_once(scope, place, x, run, targets)? {
+    match value_at_once(alloc, scope, place, x, run, targets)? {
         Some(left) => see_right(alloc, scope, place, op, left, y, run, targets),
         None => Ok(Next::Wait(
             Waiting::Expression(place, ForExpression::ApplyLeft(op, y)),
@@ -186,7 +186,7 @@ fn see_right<'a>(
     ensures scope { IfOk result (λ next. below_next (scope_of scope.now) next ≡ (scope_of scope.now)) }
     ensures falls { IfOk result (λ next. next_weight next < 2 + expr_size y.now) }
 {
-    match value_at_once(scope, place, y, run, targets)? {
+    match value_at_once(alloc, scope, place, y, run, targets)? {
         Some(right) => {
             let value = applied(alloc, op, &left, &right)?;
             Ok(Next::Give(Reply::Val(value)))

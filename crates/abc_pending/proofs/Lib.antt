@@ -3,3 +3,5 @@ pub mod Levels
 pub mod Falling
 pub mod Growing
 pub mod GoingOn
+pub mod AtOnce
+pub mod Addresses

@@ -1,5 +1,5 @@
 -- What the pending work leads to, by the meaning.
-use Rattle.std.specs.Prelude.{ℕ, suc, Bool, true, false, not, List, [], ◌∷◌, ◌++◌, Option, Some, None, if◌then◌else◌}
+use Rattle.std.specs.Prelude.{suc, Bool, true, false, not, List, [], ◌∷◌, ◌++◌, Option, Some, None, if◌then◌else◌}
 use Rattle.abc_tree.specs.Units.{unit_of}
 use Rattle.abc_tree.specs.declared.commands.Action.{Action}
 use Rattle.abc_tree.specs.declared.commands.Refinement.{Refinement}

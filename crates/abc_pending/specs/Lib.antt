@@ -4,3 +4,4 @@ pub mod Weights
 pub mod Leads
 pub mod Views
 pub mod Steps
+pub mod AtOnce

@@ -1,20 +1,14 @@
 -- The pending work that the code holds.
-use Rattle.std.specs.Prelude.{◌≡◌, ◌+◌, ℕ, Bool, true, false, Option, List, [], ◌∷◌, drop, map, option_map, Some, None, is_none, Result, Ok, Err}
-use Rattle.abc_tree.specs.declared.formulas.Expr.{Expr}
-use Rattle.abc_tree.specs.declared.formulas.Fill.{Fill}
-use Rattle.abc_tree.specs.declared.formulas.Piece.{Piece}
-use Rattle.abc_tree.specs.declared.formulas.Pair.{Pair}
-use Rattle.abc_tree.specs.declared.formulas.Expr.TheOpen.{Expr-F}
+use Rattle.std.specs.Prelude.{◌+◌, ℕ, Option, List, [], ◌∷◌, drop, map, option_map, Result}
 use Rattle.abc_tree.specs.declared.commands.Action.{Action, out-Action}
 use Rattle.abc_tree.specs.declared.commands.Unit.{Unit as Routine}
 use Rattle.abc_frames.specs.Maps.{Frame as Names}
 use Rattle.abc_meaning.specs.State.{Address, Formal, State, Got, gives, after}
-use Rattle.abc_meaning.specs.Here.{Scope, line_in, refinement_at}
+use Rattle.abc_meaning.specs.Here.{Scope, line_in}
 use Rattle.abc_meaning.specs.Deeper.{Actual}
-use Rattle.abc_value.specs.Tree.{Tree}
 use Rattle.abc_state.specs.Views.{address_of, actual_of, flow_of, formal_of, filling_of, tabling_of, wording_of, scope_of}
 use Rattle.abc_acts.specs.Views.{held_of}
-use Rattle.abc_state.specs.Agrees.{Halts, Leads}
+use Rattle.abc_state.specs.Agrees.{Leads}
 use Rattle.abc_state.specs.declared.halt.Halt.{Halt}
 use Rattle.abc_state.specs.declared.spots.Spot.{Spot}
 use Rattle.abc_state.specs.declared.actuals.Actual.{Actual as HeldActual}
@@ -184,18 +178,6 @@ next_weight (Wait f w) = frame_weight (frame_of f) + job_weight (job_of w.1)
 -- What has begun leads to the same, in this scope.
 abbrev pub Begins : List Routine → Scope → ℕ → Result Next Halt → State → Got Answer → Type 0
 Begins units scope line result s g = Leads (λ next. begin_of units scope next s) line result s g
-
--- Whether the value of an expression is found without work of its own: a number's is, and that of a name that is no refinement.
-abbrev pub is_at_once : Scope → Expr-F Expr Fill Piece Pair → Bool
-is_at_once scope (Expr-F.Number n) = true
-is_at_once scope (Expr-F.Name i) = is_none (refinement_at scope i.0)
-is_at_once scope other = false
-
--- A value that is found at once is what the meaning gives, or the meaning stops so. Where none is, nothing is said.
-abbrev pub Tells : ℕ → Result (Option Tree) Halt → State → Got Tree → Type 0
-Tells line (Ok (Some v)) s g = g ≡ gives v s
-Tells line (Ok None) s g = Unit {0}
-Tells line (Err h) s g = Halts line h s g
 
 -- the line on which the faults of a piece of work are
 abbrev pub first_line : Scope → Place → List Action → ℕ

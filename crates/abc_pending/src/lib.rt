@@ -2,13 +2,15 @@
 //! the values that are found without work of their own.
 #![tactic(auto)]
 
+mod addressed;
 mod at_once;
 mod pending;
 mod place;
 mod replies;
 mod stopped;
 
-pub use at_once::value_at_once;
+pub use addressed::spot_at_once;
+pub use at_once::{HEIGHT_AT_ONCE, truth_at_once, value_at_once};
 pub use pending::{
     Doing, ForAction, ForActual, ForExpression, ForFlow, ForSpot, ForTest, ForTruth, Job, Leaves,
     Next, Purpose, Reply, Waiting, Work,

@@ -3,25 +3,25 @@
 ghost use Rattle.std.specs.Prelude.{◌≡◌, ◌≤◌, ◌+◌, ◌⊎◌, ℕ, Bool, List, drop, IfOk, IfSome};
 ghost use Rattle.abc_num.specs.declared.lines.RawLine.{RawLine};
 ghost use Rattle.abc_tree.specs.declared.commands.Unit.{Unit as Routine};
+ghost use Rattle.abc_value.specs.Tree.{Tree};
 ghost use Rattle.abc_meaning.specs.State.{Got, State};
 ghost use Rattle.abc_meaning.specs.Here.{Scope as Names};
 ghost use Rattle.abc_state.specs.Views.{scope_of, state_of};
-ghost use Rattle.abc_pending.specs.Leads.{below, now};
-ghost use Rattle.abc_pending.specs.Pending.{Answer, perform_all};
+ghost use Rattle.abc_pending.specs.AtOnce.{Tells};
+ghost use Rattle.abc_pending.specs.Leads.{as_truth, as_val, below, now};
+ghost use Rattle.abc_pending.specs.Pending.{perform_all};
 ghost use Rattle.abc_pending.specs.Steps.{Resumes};
-ghost use Rattle.abc_pending.specs.Views.{Begins, begin_of, below_next, frame_of, job_of, next_weight};
+ghost use Rattle.abc_pending.specs.Views.{begin_of, below_next, frame_of, job_of, next_weight, reply_of};
 ghost use Rattle.abc_pending.specs.Weights.{frame_weight, job_weight};
 ghost use Rattle.abc_pending.specs.declared.pending.Next.TheVariants.{Wait};
-ghost use Rattle.abc_steps.specs.Ahead.{Replies};
 
 use crate::dispatch::resumed;
 use abc_command_steps::perform_all;
-use abc_expression_steps::see;
 use abc_frames::Targets;
-use abc_pending::{Halted, Job, Next, Reply, Waiting, Work};
+use abc_pending::{Halted, Job, Next, Reply, Waiting, Work, truth_at_once, value_at_once};
 use abc_state::{Halt, Run, Scope};
-use abc_test_steps::try_test;
-use abc_tree::{Expr, Suite, Test};
+use abc_tree::Suite;
+use abc_value::Value;
 use std::alloc::Global;
 
 /// Goes on from what a step came to: with the reply for which something would wait, where it is there at once, and with the beginning of
@@ -72,7 +72,7 @@ fn answer_ahead<'a>(
     }
 }
 
-/// The reply of work that is simple, if it is there at once.
+/// The reply of work on an expression or a test, if it is found at once.
 fn reply_ahead<'a>(
     alloc: Global,
     scope: &Scope<'a>,
@@ -80,51 +80,36 @@ fn reply_ahead<'a>(
     run: &Run,
     targets: &Targets,
 ) -> Result<Option<Reply>, Halt>
-    ensures replies { (units : List Routine) (lines : List RawLine) (ended : Bool) → Replies work.now.0.line result (state_of run.now targets.now lines ended) (now units (scope_of scope.now) work.now.0 (job_of work.now.1) (state_of run.now targets.now lines ended)) }
+    ensures replies { (units : List Routine) (lines : List RawLine) (ended : Bool) → Tells reply_of work.now.0.line result (state_of run.now targets.now lines ended) (now units (scope_of scope.now) work.now.0 (job_of work.now.1) (state_of run.now targets.now lines ended)) }
 {
     let Work(place, job) = work;
     match job {
-        Job::See(e) if is_simple(e) => reply_in(see(alloc, scope, *place, e, run, targets)),
-        Job::Try(test) if is_simple_test(test) => {
-            reply_in(try_test(alloc, scope, *place, test, run, targets))
-        }
+        Job::See(e) => as_value(value_at_once(alloc, scope, *place, e, run, targets)),
+        Job::Try(test) => as_truth(truth_at_once(alloc, scope, *place, test, run, targets)),
         _ => Ok(None),
     }
 }
 
-/// The reply to which a piece of work has come, if it has come to one.
-fn reply_in(begun: Result<Next<'_>, Halt>) -> Result<Option<Reply>, Halt>
-    ensures replies { (units : List Routine) (scope : Names) (line : ℕ) (s : State) (g : Got Answer) → Begins units scope line begun.entry s g → Replies line result s g }
+/// The reply that is a value, if one was found.
+fn as_value(found: Result<Option<Value>, Halt>) -> Result<Option<Reply>, Halt>
+    ensures replies { (line : ℕ) (s : State) (g : Got Tree) → Tells (λ v. v) line found s g → Tells reply_of line result s (as_val g) }
 {
-    match begun {
-        Ok(Next::Give(reply)) => Ok(Some(reply)),
-        Ok(_next) => Ok(None),
+    match found {
+        Ok(Some(value)) => Ok(Some(Reply::Val(value))),
+        Ok(None) => Ok(None),
         Err(halt) => Err(halt),
     }
 }
 
-/// Whether it is worth while to ask for the value of an expression at once. A wrong answer would cost time alone.
-fn is_simple(e: &Expr) -> bool {
-    match e {
-        Expr::Apply2(_, x, y) => is_leaf(x.get()) && is_leaf(y.get()),
-        e => is_leaf(e),
+/// The reply that is a truth value, if one was found.
+fn as_truth(found: Result<Option<bool>, Halt>) -> Result<Option<Reply>, Halt>
+    ensures replies { (line : ℕ) (s : State) (g : Got Bool) → Tells (λ b. b) line found s g → Tells reply_of line result s (as_truth g) }
+{
+    match found {
+        Ok(Some(truth)) => Ok(Some(Reply::Truth(truth))),
+        Ok(None) => Ok(None),
+        Err(halt) => Err(halt),
     }
-}
-
-/// The same of a test.
-fn is_simple_test(test: &Test) -> bool {
-    match test {
-        Test::Chain(first, links) => match links.as_slice() {
-            [link] => is_leaf(first) && is_leaf(&link.right),
-            _ => false,
-        },
-        _ => false,
-    }
-}
-
-/// Whether an expression is a number or a name.
-fn is_leaf(e: &Expr) -> bool {
-    matches!(e, Expr::Number(_) | Expr::Name(_))
 }
 
 /// The suite that some work performs, from a place on, if it is such work.

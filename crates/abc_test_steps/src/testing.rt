@@ -28,7 +28,7 @@ use abc_value::{RunFault, Value};
 use std::alloc::Global;
 
 /// The work on a test, where so many levels are left.
-#[tactic(auto, using(crate::proofs::Levels::meaning_holds, crate::proofs::Levels::holds_at_zero))]
+#[tactic(auto, using(abc_pending::proofs::Levels::meaning_holds, abc_pending::proofs::Levels::holds_at_zero))]
 pub fn try_test<'a>(
     alloc: Global,
     scope: &Scope<'a>,
@@ -115,7 +115,7 @@ fn see_chain<'a>(
     ensures scope { IfOk result (λ next. below_next (scope_of scope.now) next ≡ (scope_of scope.now)) }
     ensures falls { IfOk result (λ next. next_weight next < 4 + expr_size first.now + links_size links.now) }
 {
-    match value_at_once(scope, place, first, run, targets)? {
+    match value_at_once(alloc, scope, place, first, run, targets)? {
         Some(value) => compare(alloc, scope, place, value, links, run, targets),
         None => Ok(Next::Wait(
             Waiting::Test(place, ForTest::ChainFirst(links)),
@@ -388,7 +388,7 @@ fn see_link<'a>(
     ensures scope { IfOk result (λ next. below_next (scope_of scope.now) next ≡ (scope_of scope.now)) }
     ensures falls { IfOk result (λ next. next_weight next < 4 + expr_size right.now + links_size others.now) }
 {
-    match value_at_once(scope, place, right, run, targets)? {
+    match value_at_once(alloc, scope, place, right, run, targets)? {
         Some(value) => take_link(alloc, place, &left, op, others, value),
         None => {
             let left = Boxed::new(alloc, left)?;

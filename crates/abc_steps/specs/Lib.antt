@@ -1,2 +1,0 @@
--- Words of the steps of the machine.
-pub mod Ahead
