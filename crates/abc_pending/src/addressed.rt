@@ -22,7 +22,8 @@ use abc_value::Value;
 use std::alloc::Global;
 
 /// The address that an expression is, where it is a name, or a table of such an address at a key whose value is found at once: it is found
-/// without work of its own. None for all else, and then nothing was evaluated.
+/// without work of its own. None for all else, and then nothing was evaluated. It answers the halt that the meaning gives on this line, or want of
+/// memory.
 pub fn spot_at_once(
     alloc: Global,
     scope: &Scope<'_>,

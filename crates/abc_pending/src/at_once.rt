@@ -27,7 +27,8 @@ use std::alloc::Global;
 pub const HEIGHT_AT_ONCE: u32 = 8;
 
 /// The value of an expression of numbers, names that are no refinements, operations and looks at tables: it is found without work of its
-/// own. None for all else, and then nothing was evaluated.
+/// own. None for all else, and then nothing was evaluated. It takes a step for each node. It answers the halt that
+/// the meaning gives on this line (TooDeep among them, where no levels are left), or want of memory.
 pub fn value_at_once(
     alloc: Global,
     scope: &Scope<'_>,
@@ -45,7 +46,8 @@ pub fn value_at_once(
     value_found(alloc, scope, place, e, run, targets)
 }
 
-/// The same of a test: of a single relation or a membership between two such expressions.
+/// Whether a test succeeds that is a single relation or a membership between two such expressions. None for all else, and then nothing was
+/// evaluated. It answers the halt that the meaning gives on this line, or want of memory.
 #[tactic(auto, using(crate::proofs::Levels::meaning_holds, crate::proofs::Levels::holds_at_zero))]
 pub fn truth_at_once(
     alloc: Global,
@@ -127,7 +129,7 @@ fn are_at_once(scope: &Scope<'_>, x: &Expr, y: &Expr, height: u32) -> bool
     is_at_once(scope, x, height) && is_at_once(scope, y, height)
 }
 
-/// The value of an expression, where its kind is one whose value is found at once. A step for each node.
+/// The value of an expression, where the kinds of its nodes are those whose values are found at once. It walks over each node once.
 #[cycle(value_found)]
 #[tactic(auto, using(crate::proofs::Levels::meaning_value, crate::proofs::Levels::value_at_zero))]
 pub(crate) fn value_found(

@@ -17,7 +17,7 @@ pub whole_found : (r : Option (Bor Principal)) (es : Known) (text : List ℕ) �
 whole_found None es text whole e = tt
 whole_found (Some p) es text whole e = whole text p.now (sym e)
 
--- one principal put or taken
+-- one principal put
 module _ (es new : Known) (text : List ℕ) (o : Option Principal) (updates : (q : List ℕ) → lookup (text_eq q) new ≡ cond (text_eq text q) o (lookup (text_eq q) es)) where
   pub found_new : known_of new text ≡ o
   found_new = sym (looked_up new text) ∙ (updates text ∙ ap (λ b. cond b o (lookup (text_eq text) es)) ((text_eq-Decides text text).1 refl))

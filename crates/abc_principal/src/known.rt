@@ -1,5 +1,5 @@
 //! The principals that are known.
-ghost use Rattle.std.specs.Prelude.{◌≡◌, [], List, ℕ, Some, None, IfSome, OnOk, OnErr, option_map};
+ghost use Rattle.std.specs.Prelude.{◌≡◌, [], List, ℕ, Some, IfSome, OnOk, OnErr, option_map};
 ghost use Rattle.abc_principal.specs.Exact.{known_of};
 ghost use Rattle.abc_principal.specs.Principals.{IsWhole};
 
@@ -58,14 +58,5 @@ impl Principals {
     {
         self.entries.insert(text, p)?;
         Ok(())
-    }
-
-    /// Forgets the principal for this text, and gives it back.
-    pub fn take(&mut self, text: &Text) -> Option<Principal>
-        ensures taken { result ≡ known_of self.old text.now }
-        ensures gone { known_of self.new text.now ≡ None }
-        ensures others { (t : List ℕ) → (t ≡ text.now → ⊥) → known_of self.new t ≡ known_of self.old t }
-    {
-        self.entries.swap_remove(text)
     }
 }
