@@ -28,7 +28,7 @@ fn template(
     })
 }
 
-fn push(alloc: Global) -> Result<Template, OutOfMemory> {
+pub(crate) fn push(alloc: Global) -> Result<Template, OutOfMemory> {
     template(alloc, TemplateKind::Command, &["PUSH", "_"])
 }
 
@@ -72,7 +72,7 @@ fn unit_of(alloc: Global, template: Template, names: Names, body: Suite) -> Unit
 }
 
 /// PUSH, which calls itself on line 2.
-fn unit(alloc: Global) -> Result<Unit, OutOfMemory> {
+pub(crate) fn unit(alloc: Global) -> Result<Unit, OutOfMemory> {
     let names = one_name(alloc)?;
     let template = push(alloc)?;
     let body = body(alloc)?;
