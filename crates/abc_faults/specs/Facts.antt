@@ -1,10 +1,9 @@
 -- What is known of an item before its lines are judged.
-use Rattle.std.specs.Prelude.{ℕ, Bool, true, false, not, ◌&&◌, List, [], ◌∷◌, Option, Some, None, is_none, Result, Ok, Err, bytes_eq, codes, if◌then◌else◌, map}
+use Rattle.std.specs.Prelude.{ℕ, Bool, true, false, not, ◌&&◌, List, [], ◌∷◌, Option, Some, None, is_none, Result, Ok, Err, if◌then◌else◌, map}
 use Rattle.abc_tokens.specs.declared.kinds.TokenFault.{TokenFault}
 use Rattle.abc_tree.specs.declared.templates.TemplateKind.{TemplateKind}
 use Rattle.abc_tree.specs.declared.templates.TemplateKind.TheVariants as template
 use Rattle.abc_expressions.specs.declared.lexemes.Lexeme.{Lexeme}
-use Rattle.abc_expressions.specs.declared.lexemes.Lexeme.TheVariants as t
 use Rattle.abc_outline.specs.declared.edges.Edges.{Edges}
 use Rattle.abc_outline.specs.declared.edges.Place.{Place}
 use Rattle.abc_outline.specs.declared.edges.Role.{Role}
@@ -16,17 +15,9 @@ use Rattle.abc_clauses.specs.declared.clause.Clause.{Clause}
 use Rattle.abc_clauses.specs.declared.clause.Head.{Head}
 use Rattle.abc_clauses.specs.declared.clause.Head.TheVariants as head
 use Rattle.abc_tree.specs.declared.commands.ActionNode.{ActionNode}
+use Rattle.abc_clauses.specs.Edges.{kind_by_tokens, has_suite_below, is_select}
 use Rattle.abc_clauses.specs.Readings.{command_of, alternative_of, heading_of, refinement_of}
 use Rattle.abc_faults.specs.declared.facts.Facts.{Facts}
-
--- RETURN begins a function, REPORT a predicate, anything else a command
-abbrev pub kind_by_word : List ℕ → TemplateKind
-kind_by_word word = if bytes_eq word (codes "RETURN") then template.Function else (if bytes_eq word (codes "REPORT") then template.Predicate else template.Command)
-
--- by the keyword behind HOW TO
-abbrev pub kind_by_tokens : List Lexeme → TemplateKind
-kind_by_tokens (how ∷ to ∷ t.Keyword word ∷ ts) = kind_by_word word
-kind_by_tokens _ = template.Command
 
 abbrev pub kind_by_read : Result (List Lexeme) TokenFault → TemplateKind
 kind_by_read (Ok ts) = kind_by_tokens ts
@@ -69,10 +60,6 @@ clause_read facts role n text (Err fault) = None
 
 -- ---- what goes together
 
-abbrev pub is_select : Head → Bool
-is_select head.Select = true
-is_select _ = false
-
 -- the line of a command, with nothing or something beside it; nothing stands beside a simple command or SHARE
 abbrev pub is_command_head : Head → Bool → Bool
 is_command_head (head.Simple node) alone = alone
@@ -92,13 +79,6 @@ suits role.Alternative (head.When test) beside = true
 suits role.Alternative head.Otherwise beside = true
 suits role.Command h beside = is_command_head h (is_none beside)
 suits _ _ _ = false
-
--- whether a heading's suite stands below it
-abbrev pub has_suite_below : Head → Option ActionNode → Bool
-has_suite_below h (Some beside) = false
-has_suite_below (head.Simple n) None = false
-has_suite_below (head.Share names) None = false
-has_suite_below _ None = true
 
 abbrev pub opens : Clause → Bool
 opens clause = has_suite_below clause.head clause.beside

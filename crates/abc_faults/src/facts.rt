@@ -1,6 +1,7 @@
 //! What is known of an item before its lines are judged.
 ghost use Rattle.std.specs.Prelude.{◌≡◌, IfOk};
-ghost use Rattle.abc_faults.specs.Facts.{facts_of, kind_by_read, kind_by_tokens, kind_by_word, unit_kind};
+ghost use Rattle.abc_clauses.specs.Edges.{kind_by_tokens, kind_by_word};
+ghost use Rattle.abc_faults.specs.Facts.{facts_of, kind_by_read, unit_kind};
 
 use abc_expressions::Lexeme;
 use abc_num::{Items, Names, OutOfMemory};

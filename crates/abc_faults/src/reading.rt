@@ -4,7 +4,8 @@ ghost use Rattle.abc_num.specs.declared.limits.TheConstants.{MOST_LINE_BYTES};
 ghost use Rattle.abc_expressions.specs.Lexemes.{IsSpelled};
 ghost use Rattle.abc_outline.specs.Rows.{IsShort, IsRead};
 ghost use Rattle.abc_outline.specs.Outline.{is_command, opens_select};
-ghost use Rattle.abc_faults.specs.Facts.{agrees, clause_by, clause_read, is_command_head, is_select, suits, has_suite_below};
+ghost use Rattle.abc_clauses.specs.Edges.{has_suite_below, is_select};
+ghost use Rattle.abc_faults.specs.Facts.{agrees, clause_by, clause_read, is_command_head, suits};
 
 use crate::facts::Facts;
 use abc_clauses::{

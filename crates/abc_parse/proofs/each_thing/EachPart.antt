@@ -15,7 +15,8 @@ use Rattle.abc_outline.specs.Outline.{around, begins_at, chain, is_refinement, l
 use Rattle.abc_clauses.specs.declared.clause.Head.{Head}
 use Rattle.abc_clauses.specs.declared.clause.Head.TheVariants as head
 use Rattle.abc_faults.specs.Causes.{goes_on}
-use Rattle.abc_faults.specs.Facts.{is_select, suits}
+use Rattle.abc_faults.specs.Facts.{suits}
+use Rattle.abc_clauses.specs.Edges.{is_select}
 use Rattle.abc_parse.specs.declared.parts.Root.{Root}
 use Rattle.abc_parse.specs.declared.parts.Part.{Part}
 use Rattle.abc_parse.specs.Roots.{kept, parts_of, taken}

@@ -21,14 +21,13 @@ use Rattle.abc_outline.specs.declared.rows.Row.{Row}
 use Rattle.abc_clauses.specs.declared.clause.Clause.{Clause}
 use Rattle.abc_clauses.specs.declared.clause.Head.{Head}
 use Rattle.abc_clauses.specs.declared.clause.Head.TheVariants as head
-use Rattle.abc_clauses.specs.Edges as edge
-use Rattle.abc_clauses.specs.Edges.{HasKind, IsUnitLine}
+use Rattle.abc_clauses.specs.Edges.{HasKind, IsUnitLine, kind_by_tokens}
 use Rattle.abc_clauses.specs.Names.{Kinds}
 use Rattle.abc_clauses.specs.Readings.{Said, alternative_of, clause_at, command_of, heading_of, refinement_of, said_alternative, said_command, said_heading, said_refinement}
 use Rattle.abc_clauses.specs.Says as says
 use Rattle.abc_clauses.specs.Says.{SaysFunction, SaysHeading, SaysPattern, SaysPlaces}
 use Rattle.abc_faults.specs.declared.facts.Facts.{Facts}
-use Rattle.abc_faults.specs.Facts.{agrees, clause_by, clause_of, clause_read, if_agrees, kind_by_tokens}
+use Rattle.abc_faults.specs.Facts.{agrees, clause_by, clause_of, clause_read, if_agrees}
 use Rattle.abc_parse.proofs.each_thing.PartsMade.{mapped}
 
 abbrev are_alone : List Bound → Bool
@@ -134,20 +133,8 @@ abbrev pub KeepsKinds : Type 0
 KeepsKinds = (own : List (List ℕ)) (kinds : Kinds) (commands : List (List ℕ)) (text : List ℕ) (n : ℕ) (ts : List Lexeme) (clause : Clause)
     → heading_of own kinds commands text n ts ≡ Some clause → IsUnitLine ts clause
 
-same_kind : (ts : List Lexeme) → edge.kind_by_tokens ts ≡ kind_by_tokens ts
-same_kind [] = refl
-same_kind (how ∷ []) = refl
-same_kind (how ∷ to ∷ []) = refl
-same_kind (how ∷ to ∷ lexeme.Keyword x ∷ ts) = refl
-same_kind (how ∷ to ∷ lexeme.Name x ∷ ts) = refl
-same_kind (how ∷ to ∷ lexeme.Number x ∷ ts) = refl
-same_kind (how ∷ to ∷ lexeme.Text x ∷ ts) = refl
-same_kind (how ∷ to ∷ lexeme.Sign x ∷ ts) = refl
-same_kind (how ∷ to ∷ lexeme.Other ∷ ts) = refl
-
 pub title_kind : KeepsKinds → (facts : Facts) (n : ℕ) (text : List ℕ) (ts : List Lexeme) (clause : Clause) (f : Template) (formals : List Bound)
     → heading_of facts.names facts.kinds facts.commands text n ts ≡ Some clause → clause.head ≡ head.Unit f formals → f.kind ≡ kind_by_tokens ts
 title_kind keeps facts n text ts clause f formals e is =
     let k = (keeps facts.names facts.kinds facts.commands text n ts clause e).kind in
-    let h : HasKind (edge.kind_by_tokens ts) (head.Unit f formals) = subst (HasKind (edge.kind_by_tokens ts)) is k in
-    h ∙ same_kind ts
+    subst (HasKind (kind_by_tokens ts)) is k

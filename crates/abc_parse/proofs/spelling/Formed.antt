@@ -15,6 +15,7 @@ use Rattle.abc_outline.specs.declared.edges.Setting.{Setting}
 use Rattle.abc_outline.specs.declared.rows.Row.{Row}
 use Rattle.abc_outline.specs.Outline.{around, is_chosen, opens_select, role_of, section_of, section_by, is_refinement}
 use Rattle.abc_clauses.specs.declared.clause.Clause.{Clause}
+use Rattle.abc_clauses.specs.Edges.{has_suite_below, is_select}
 use Rattle.abc_clauses.specs.declared.clause.Head.{Head}
 use Rattle.abc_clauses.specs.declared.clause.Head.TheVariants as head
 use Rattle.abc_faults.specs.declared.facts.Facts.{Facts}
@@ -26,8 +27,8 @@ use Rattle.abc_parse.specs.declared.parts.Root.{Root}
 use Rattle.abc_faults.specs.declared.sayings.Saying.{Saying}
 use Rattle.abc_parse.specs.Roots.{taken, kept, parts_of}
 use Rattle.abc_parse.specs.Parts.{grown, alone, commands, alternatives, command, way, on}
-use Rattle.abc_faults.specs.Facts.{opens, has_suite_below}
-use Rattle.abc_faults.specs.Facts.{edges, place_below, clause_of, clause_read, if_agrees, agrees, suits, same as alike, is_select}
+use Rattle.abc_faults.specs.Facts.{opens}
+use Rattle.abc_faults.specs.Facts.{edges, place_below, clause_of, clause_read, if_agrees, agrees, suits, same as alike}
 use Rattle.abc_faults.specs.Causes.{KINDS, is_alternative, cause, stands_between, sight_of, bad_indent, bad_place, behind_refinement, head_misplaced, where_said}
 use Rattle.abc_faults.specs.Faults.{fault_from}
 use Rattle.abc_parse.specs.Trees.{root, refined, Reads, none, Suited, Sections, end, same, refinement}

@@ -7,13 +7,14 @@ use Rattle.abc_tree.specs.declared.commands.ActionNode.{ActionNode}
 use Rattle.abc_tree.specs.declared.commands.Refinement.{Refinement}
 use Rattle.abc_tree.specs.declared.commands.RefinementKind.{RefinementKind}
 use Rattle.abc_clauses.specs.declared.clause.Head.{Head}
+use Rattle.abc_clauses.specs.Edges.{has_suite_below}
 use Rattle.abc_clauses.specs.declared.clause.Head.TheVariants as head
 use Rattle.abc_faults.specs.declared.sayings.Saying.{Saying}
 use Rattle.abc_parse.specs.declared.parts.Root.{Root}
 use Rattle.abc_parse.specs.declared.parts.Part.{Part}
 use Rattle.abc_parse.specs.Roots.{taken, kept, parts_of}
 use Rattle.abc_parse.specs.Parts.{grown, alone, commands}
-use Rattle.abc_faults.specs.Facts.{has_suite_below, opens}
+use Rattle.abc_faults.specs.Facts.{opens}
 use Rattle.abc_parse.specs.Trees.{deeper, behind, root, made_alone, made_over, refinement_of, Reads, none, plain, over, Suited, Sections, end, same, refinement}
 use Rattle.abc_parse.proofs.spelling.Cuts.{deeper_deeper, behind_deeper, behind_behind, front, taken_front}
 

@@ -22,6 +22,7 @@ use Rattle.abc_outline.specs.declared.rows.Row.{Row}
 use Rattle.abc_outline.specs.Rows.{row_of, rows_of}
 use Rattle.abc_outline.specs.Outline.{around, is_chosen, opens_select, role_of, is_refinement, is_heading, may_be_heading, first_role}
 use Rattle.abc_clauses.specs.declared.clause.Clause.{Clause}
+use Rattle.abc_clauses.specs.Edges.{has_suite_below}
 use Rattle.abc_clauses.specs.declared.clause.Head.{Head}
 use Rattle.abc_clauses.specs.declared.clause.Head.TheVariants as head
 use Rattle.abc_faults.specs.declared.facts.Facts.{Facts}
@@ -32,7 +33,7 @@ use Rattle.abc_parse.specs.declared.parts.Root.{Root}
 use Rattle.abc_faults.specs.declared.sayings.Saying.{Saying}
 use Rattle.abc_parse.specs.Roots.{parts_of}
 use Rattle.abc_parse.specs.Parts.{grown, alone, commands, alternatives, command, way}
-use Rattle.abc_faults.specs.Facts.{opens, has_suite_below, facts_of, edges, place_below, clause_of, suits}
+use Rattle.abc_faults.specs.Facts.{opens, facts_of, edges, place_below, clause_of, suits}
 use Rattle.abc_faults.specs.Causes.{cause, bad_indent, sight_of, head_misplaced}
 use Rattle.abc_faults.specs.Environments.{is_environment, environment_fault, asked}
 use Rattle.abc_faults.specs.Faults.{fault_from, fault_of_rows, item_fault}
