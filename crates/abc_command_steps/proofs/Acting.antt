@@ -25,7 +25,7 @@ use Rattle.abc_pending.specs.declared.place.Changes.TheVariants.{Put, Insert, Re
 use Rattle.abc_pending.specs.Pending.{write_between, change_value, check_test, change_place, delete_place, in_action, for_truth, for_address}
 use Rattle.abc_pending.specs.Leads.{as_val, as_truth, as_flow, as_actual, as_address, done, change_by, resume}
 use Rattle.abc_pending.proofs.GoingOn.{goes_on_after}
-use Rattle.abc_command_steps.proofs.Levels.{whole_address}
+use Rattle.abc_pending.proofs.Addresses.{whole_address}
 
 -- a command goes on behind its last act
 pub goes_on_behind : {A : Type 0} (g : Got A) (go : A → Run (Unit {0})) → as_flow (after g (λ a s. after (go a s) (λ _. gives goes_on))) ≡ done (after g go)

@@ -1,8 +1,6 @@
 -- What commands and turns mean where a level is left, and where none is.
-use Rattle.std.proofs.Common.{◌≡◌, ◌≢◌, ℕ, zero, suc, ◌-◌, ◌+◌, List, refl, if◌then◌else◌}
+use Rattle.std.proofs.Common.{◌≡◌, ◌≢◌, ℕ, zero, suc, ◌-◌, List, refl, if◌then◌else◌}
 use Rattle.std.proofs.Math.Numerals.{sub-one}
-use Rattle.abc_num.specs.declared.limits.TheConstants.{MOST_TREE_HEIGHT}
-use Rattle.abc_tree.specs.declared.formulas.Expr.{Expr}
 use Rattle.abc_tree.specs.declared.formulas.Test.{Test}
 use Rattle.abc_tree.specs.declared.commands.Action.{Action, out-Action}
 use Rattle.abc_tree.specs.declared.commands.ActionNode.{out-ActionNode}
@@ -13,7 +11,6 @@ use Rattle.abc_meaning.specs.Calls.{suite, then_on}
 use Rattle.abc_meaning.specs.Here.{Here, at_line, spend}
 use Rattle.abc_meaning.specs.Deeper.{Deeper}
 use Rattle.abc_meaning.specs.Acts.{acts_with, turns}
-use Rattle.abc_meaning.specs.Addresses.{address, address_within, whole}
 use Rattle.abc_meaning.specs.Meaning.{meaning}
 
 -- a test of WHILE is a step, and then a test
@@ -37,10 +34,6 @@ pub acts_at_zero : (units : List Routine) (n : ℕ) (here : Here) (a : Action) (
 unfolding meaning
 acts_at_zero units zero here a s h = refl
 acts_at_zero units (suc n) here a s h = cc
-
-pub whole_address : (deep : Deeper) (here : Here) (e : Expr) (s : State) → address deep here e s ≡ after (address_within deep here (MOST_TREE_HEIGHT + 1) e s) (whole here)
-unfolding address
-whole_address deep here e s = refl
 
 -- turns of WHILE
 pub turns_at_zero : (deep : Deeper) (here : Here) (k : ℕ) (t : Test) (body : List Action) (s : State) → k ≡ 0 → turns deep here k t body s ≡ stops here.line (faulty BudgetSpent) s

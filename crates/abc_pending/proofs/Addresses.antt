@@ -66,6 +66,6 @@ module _ (deep : Deeper) (here : Here) (high : ℕ) (e : Expr) (s : State) (some
   with_stop line h t k is stop =
       subst (Halts line h s) (sym (select_within t k is)) (stops_on line h s (address_within deep here (high - 1) t s) (λ a s. after (deep.value here k s) (λ v. gives (stepped (key v) a))) stop)
 
-pub whole_is : (deep : Deeper) (here : Here) (e : Expr) (s : State) → address deep here e s ≡ after (address_within deep here (MOST_TREE_HEIGHT + 1) e s) (whole here)
+pub whole_address : (deep : Deeper) (here : Here) (e : Expr) (s : State) → address deep here e s ≡ after (address_within deep here (MOST_TREE_HEIGHT + 1) e s) (whole here)
 unfolding address
-whole_is deep here e s = refl
+whole_address deep here e s = refl

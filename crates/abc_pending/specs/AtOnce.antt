@@ -16,7 +16,7 @@ use Rattle.abc_state.specs.Agrees.{Halts}
 use Rattle.abc_state.specs.declared.halt.Halt.{Halt}
 use Rattle.abc_pending.specs.declared.at_once.TheConstants.{HEIGHT_AT_ONCE}
 
--- A node whose operands are found at once: a number, a name that is no refinement, an operation, a look at a table.
+-- A node whose operands are found at once: a number, a name that is no refinement, an operation, a selection.
 abbrev pub node_is_at_once : (Expr → Bool) → Scope → Expr-F Expr Fill Piece Pair → Bool
 node_is_at_once operand scope (Expr-F.Number n) = true
 node_is_at_once operand scope (Expr-F.Name i) = is_none (refinement_at scope i.0)
@@ -30,12 +30,13 @@ unfoldable pub is_at_once : ℕ → Scope → Expr → Bool
 is_at_once zero scope e = node_is_at_once (λ _. false) scope (out-Expr e)
 is_at_once (suc height) scope e = node_is_at_once (is_at_once height scope) scope (out-Expr e)
 
--- Whether the address that an expression is is found so: of a name, or of a table at a key, where it selects from so many at most.
+-- An address: a name, or a selection from a table that is such an address, at a key that is found at once.
 abbrev pub node_is_address : (Expr → Bool) → Scope → Expr-F Expr Fill Piece Pair → Bool
 node_is_address table scope (Expr-F.Name i) = true
 node_is_address table scope (Expr-F.Select t k) = is_at_once HEIGHT_AT_ONCE scope k && table t
 node_is_address table scope other = false
 
+-- Whether the address that an expression is is found without work of its own, where it has so many selections at most.
 unfoldable pub is_address_at_once : ℕ → Scope → Expr → Bool
 is_address_at_once zero scope e = node_is_address (λ _. false) scope (out-Expr e)
 is_address_at_once (suc height) scope e = node_is_address (is_address_at_once height scope) scope (out-Expr e)
@@ -46,11 +47,12 @@ operands_of (Test-F.Chain first (link ∷ [])) = Some (link.op, (first, link.rig
 operands_of (Test-F.Member op e t) = Some (op, (e, t))
 operands_of other = None
 
--- Whether the truth value of a test is found so: of one relation, or of a membership, whose operands are.
+-- whether both operands are found at once, where there are some
 abbrev pub are_at_once : Scope → Option (Op × (Expr × Expr)) → Bool
 are_at_once scope None = false
 are_at_once scope (Some p) = is_at_once HEIGHT_AT_ONCE scope p.1.0 && is_at_once HEIGHT_AT_ONCE scope p.1.1
 
+-- Whether the truth value of a test is found so: of one relation, or of a membership, whose operands are.
 abbrev pub is_truth_at_once : Scope → Test-F Test → Bool
 is_truth_at_once scope t = are_at_once scope (operands_of t)
 

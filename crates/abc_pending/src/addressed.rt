@@ -1,5 +1,5 @@
 //! Addresses that are found at once, without work of their own.
-ghost use Rattle.std.specs.Prelude.{◌≡◌, ◌<◌, ◌&&◌, ℕ, Bool, true, List, IfOk, Option, is_some, Some, map};
+ghost use Rattle.std.specs.Prelude.{◌≡◌, ◌<◌, ◌&&◌, ℕ, Bool, true, false, List, IfOk, Option, is_some, Ok, Some, None, map};
 ghost use Rattle.abc_num.specs.declared.lines.RawLine.{RawLine};
 ghost use Rattle.abc_tree.specs.declared.commands.Unit.{Unit as Routine};
 ghost use Rattle.abc_value.specs.Tree.{Tree};
@@ -21,9 +21,9 @@ use abc_tree::Expr;
 use abc_value::Value;
 use std::alloc::Global;
 
-/// The address that an expression is, where it is a name, or a table of such an address at a key whose value is found at once: it is found
-/// without work of its own. None for all else, and then nothing was evaluated. It answers the halt that the meaning gives on this line, or want of
-/// memory.
+/// The address that an expression is, where it is a name, or a selection, from such an address, at a key whose value is found at once,
+/// with no more than HEIGHT_AT_ONCE selections: it is found without work of its own. None for all else, and then nothing was evaluated.
+/// It answers the halt that the meaning gives on this line, or want of memory.
 pub fn spot_at_once(
     alloc: Global,
     scope: &Scope<'_>,
@@ -34,6 +34,7 @@ pub fn spot_at_once(
 ) -> Result<Option<Spot>, Halt>
     ensures tells { (units : List Routine) (lines : List RawLine) (ended : Bool) → Tells address_of place.line result (state_of run.now targets.now lines ended) (address (meaning units place.levels) (at (scope_of scope.now) place.line) e.now (state_of run.now targets.now lines ended)) }
     ensures at_once { IfOk result (λ found. is_some found ≡ is_address_at_once HEIGHT_AT_ONCE (scope_of scope.now) e.now) }
+    ensures none { is_address_at_once HEIGHT_AT_ONCE (scope_of scope.now) e.now ≡ false → result ≡ Ok None }
 {
     if !is_address_at_once(scope, e, HEIGHT_AT_ONCE) {
         return Ok(None);
@@ -74,7 +75,7 @@ fn is_part_at_once(scope: &Scope<'_>, table: &Expr, key: &Expr, height: u32) -> 
     is_at_once(scope, key, HEIGHT_AT_ONCE) && is_address_at_once(scope, table, height)
 }
 
-/// The name and the steps of such an address, which is no higher than this.
+/// The name and the steps of such an address with fewer selections than this.
 #[tactic(auto, using(crate::proofs::AtOnce::address_is))]
 fn steps_found(
     alloc: Global,

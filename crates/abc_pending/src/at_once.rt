@@ -1,5 +1,5 @@
 //! Values and truth values that are found at once, without work of their own.
-ghost use Rattle.std.specs.Prelude.{◌≡◌, ◌&&◌, ℕ, Bool, true, List, IfOk, IfErr, IfSome, IfNone, Ok, Err, Some, None, is_some, is_none};
+ghost use Rattle.std.specs.Prelude.{◌≡◌, ◌&&◌, ℕ, Bool, true, false, List, IfOk, IfErr, IfSome, IfNone, Ok, Err, Some, None, is_some, is_none};
 ghost use Rattle.abc_num.specs.declared.lines.RawLine.{RawLine};
 ghost use Rattle.abc_tree.specs.declared.formulas.Expr.{out-Expr};
 ghost use Rattle.abc_tree.specs.declared.formulas.Test.{out-Test};
@@ -26,9 +26,10 @@ use std::alloc::Global;
 /// takes, and what the question costs where it isn't found.
 pub const HEIGHT_AT_ONCE: u32 = 8;
 
-/// The value of an expression of numbers, names that are no refinements, operations and looks at tables: it is found without work of its
-/// own. None for all else, and then nothing was evaluated. It takes a step for each node. It answers the halt that
-/// the meaning gives on this line (TooDeep among them, where no levels are left), or want of memory.
+/// The value of an expression of numbers, names that are no refinements, operations and selections, where no more than HEIGHT_AT_ONCE nodes
+/// stand above a number or a name: it is found without work of its own. None for all else, and then nothing was evaluated. It looks at
+/// each node twice at most. It answers the halt that the meaning gives on this line (TooDeep among them, where no levels are left), or
+/// want of memory.
 pub fn value_at_once(
     alloc: Global,
     scope: &Scope<'_>,
@@ -39,6 +40,7 @@ pub fn value_at_once(
 ) -> Result<Option<Value>, Halt>
     ensures tells { (units : List Routine) (lines : List RawLine) (ended : Bool) → Tells (λ v. v) place.line result (state_of run.now targets.now lines ended) ((meaning units place.levels).value (at (scope_of scope.now) place.line) e.now (state_of run.now targets.now lines ended)) }
     ensures at_once { IfOk result (λ found. is_some found ≡ is_at_once HEIGHT_AT_ONCE (scope_of scope.now) e.now) }
+    ensures none { is_at_once HEIGHT_AT_ONCE (scope_of scope.now) e.now ≡ false → result ≡ Ok None }
 {
     if !is_at_once(scope, e, HEIGHT_AT_ONCE) {
         return Ok(None);
@@ -47,7 +49,7 @@ pub fn value_at_once(
 }
 
 /// Whether a test succeeds that is a single relation or a membership between two such expressions. None for all else, and then nothing was
-/// evaluated. It answers the halt that the meaning gives on this line, or want of memory.
+/// evaluated. It looks at each node twice at most. It answers the halt that the meaning gives on this line, or want of memory.
 #[tactic(auto, using(crate::proofs::Levels::meaning_holds, crate::proofs::Levels::holds_at_zero))]
 pub fn truth_at_once(
     alloc: Global,
@@ -59,6 +61,7 @@ pub fn truth_at_once(
 ) -> Result<Option<bool>, Halt>
     ensures tells { (units : List Routine) (lines : List RawLine) (ended : Bool) → Tells (λ b. b) place.line result (state_of run.now targets.now lines ended) ((meaning units place.levels).holds (at (scope_of scope.now) place.line) test.now (state_of run.now targets.now lines ended)) }
     ensures at_once { IfOk result (λ found. is_some found ≡ is_truth_at_once (scope_of scope.now) (out-Test test.now)) }
+    ensures none { is_truth_at_once (scope_of scope.now) (out-Test test.now) ≡ false → result ≡ Ok None }
 {
     let Some((op, x, y)) = operands(test) else {
         return Ok(None);
@@ -256,7 +259,7 @@ fn applied_found(
     }
 }
 
-/// The associate of a table at a key that were found.
+/// The selection of a table at a key, both of which were found.
 fn selected_found(
     alloc: Global,
     operands: Result<Option<(Value, Value)>, Halt>,
