@@ -1,5 +1,5 @@
 //! What a step does ahead: a value or a test that takes no work of its own is there at once for what would wait for it, and a suite
-//! begins with its first command. So a command takes fewer steps.
+//! begins with its first command. So a command takes fewer steps of the machine.
 ghost use Rattle.std.specs.Prelude.{◌≡◌, ◌≤◌, ◌+◌, ◌⊎◌, ℕ, Bool, List, drop, IfOk, IfSome};
 ghost use Rattle.abc_num.specs.declared.lines.RawLine.{RawLine};
 ghost use Rattle.abc_tree.specs.declared.commands.Unit.{Unit as Routine};
@@ -39,36 +39,38 @@ pub fn go_ahead<'a>(
     ensures left { run.new.left ≡ run.old.left }
     ensures falls { IfOk result (λ on. next_weight on ≤ next_weight next.entry) }
 {
-    match answer_ahead(alloc, scope, next, run, targets) {
-        Ok(on) => Ok(begin_suite(on)),
-        Err(halted) => Err(halted),
+    match next {
+        Next::Give(reply) => Ok(Next::Give(reply)),
+        Next::Go(work) => Ok(begin_all(work)),
+        Next::Wait(frame, work) => answer_ahead(alloc, scope, frame, work, run, targets),
     }
 }
 
-/// Answers what would wait, where the reply is there at once.
+/// The same where this waits for some work: its reply is given at once where it is found so.
 fn answer_ahead<'a>(
     alloc: Global,
     scope: &mut Scope<'a>,
-    next: Next<'a>,
+    frame: Waiting<'a>,
+    work: Work<'a>,
     run: &mut Run,
     targets: &mut Targets,
 ) -> Result<Next<'a>, Halted>
-    ensures leads { (units : List Routine) (lines : List RawLine) (ended : Bool) → Resumes units (scope_of scope.new) result (state_of run.new targets.new lines ended) (begin_of units (scope_of scope.old) next.entry (state_of run.old targets.old lines ended)) }
-    ensures scope { IfOk result (λ on. below_next (scope_of scope.new) on ≡ below_next (scope_of scope.old) next.entry) }
-    ensures stands { IfOk result (λ _. (scope_of scope.new ≡ scope_of scope.old) ⊎ (scope_of scope.new ≡ below_next (scope_of scope.old) next.entry)) }
+    ensures leads { (units : List Routine) (lines : List RawLine) (ended : Bool) → Resumes units (scope_of scope.new) result (state_of run.new targets.new lines ended) (begin_of units (scope_of scope.old) (Wait frame.entry work.entry) (state_of run.old targets.old lines ended)) }
+    ensures scope { IfOk result (λ on. below_next (scope_of scope.new) on ≡ below (scope_of scope.old) (frame_of frame.entry)) }
+    ensures stands { IfOk result (λ _. (scope_of scope.new ≡ scope_of scope.old) ⊎ (scope_of scope.new ≡ below (scope_of scope.old) (frame_of frame.entry))) }
     ensures left { run.new.left ≡ run.old.left }
-    ensures falls { IfOk result (λ on. next_weight on ≤ next_weight next.entry) }
+    ensures falls { IfOk result (λ on. next_weight on ≤ frame_weight (frame_of frame.entry) + job_weight (job_of work.entry.1)) }
 {
-    match next {
-        Next::Wait(frame, work) => match reply_ahead(alloc, scope, &work, run, targets) {
-            Ok(Some(reply)) => resumed(alloc, scope, frame, reply, run, targets),
-            Ok(None) => Ok(Next::Wait(frame, work)),
-            Err(halt) => Err(Halted {
-                line: work.0.line,
-                halt,
-            }),
+    match reply_ahead(alloc, scope, &work, run, targets) {
+        Ok(Some(reply)) => match resumed(alloc, scope, frame, reply, run, targets) {
+            Ok(next) => Ok(begin_suite(next)),
+            Err(halted) => Err(halted),
         },
-        next => Ok(next),
+        Ok(None) => Ok(wait_for_all(frame, work)),
+        Err(halt) => Err(Halted {
+            line: work.0.line,
+            halt,
+        }),
     }
 }
 

@@ -1,5 +1,5 @@
 //! How each piece of pending work begins, and how what waits goes on with a reply. The stack of what waits is the caller's.
-ghost use Rattle.std.specs.Prelude.{◌≡◌, ◌≤◌, ◌<◌, ◌+◌, ◌⊎◌, Bool, true, List, IfOk, IsErrOf};
+ghost use Rattle.std.specs.Prelude.{◌≡◌, ◌≤◌, ◌<◌, ◌+◌, ◌⊎◌, Bool, true, List, IfOk, IfErr, IsErrOf, Ok, Err};
 ghost use Rattle.abc_num.specs.declared.lines.RawLine.{RawLine};
 ghost use Rattle.abc_tree.specs.declared.commands.Unit.{Unit as Routine};
 ghost use Rattle.abc_frames.specs.Maps.{Targets as Store};
@@ -11,6 +11,7 @@ ghost use Rattle.abc_state.specs.Views.{at, flow_of, scope_of, state_of};
 ghost use Rattle.abc_pending.specs.Leads.{as_flow, below, caller_of, now, resume, resume_flow};
 ghost use Rattle.abc_pending.specs.Steps.{state_with, IsNoCommand, Resumes, Starts};
 ghost use Rattle.abc_pending.specs.Views.{Begins, below_next, flow_frame, frame_line, frame_of, job_of, next_weight, reply_of};
+ghost use Rattle.abc_pending.specs.declared.stopped.Stopped.TheVariants.{Halted as OnLine};
 ghost use Rattle.abc_pending.specs.Weights.{Falls, IsWithin, action_size, flow_weight, frame_weight, job_weight};
 
 use crate::ahead::go_ahead;
@@ -34,42 +35,9 @@ use abc_test_steps::{compare, quantify, take_test, take_truth, try_test};
 use abc_tree::{Action, Units};
 use std::alloc::Global;
 
-/// How some work begins, and goes on as far as it can at once. The scope is afterwards that of the work that is next. Each takes at most
-/// one step, and walks over none of what waits.
+/// How some work begins. It goes on with one reply that is found at once, and with the beginning of a suite. The scope is afterwards that
+/// of the work that is next. Each takes at most one step of the run, and walks over none of what waits.
 pub fn begin<'a, L: Lines>(
-    alloc: Global,
-    units: &'a Units,
-    scope: &mut Scope<'a>,
-    work: Work<'a>,
-    run: &mut Run,
-    targets: &mut Targets,
-    lines: &mut L,
-) -> Result<Next<'a>, Stopped>
-    ensures may_be { (input : L.Input) → L.may_be input lines.new → L.may_be input lines.old }
-    ensures leads { (input : L.Input) → L.may_be input lines.new → Starts units.now (scope_of scope.new) result (state_with run.new targets.new (L.unread input lines.old)) (state_with run.new targets.new (L.unread input lines.new)) (now units.now (scope_of scope.old) work.entry.0 (job_of work.entry.1) (state_with run.old targets.old (L.unread input lines.old))) }
-    ensures scope { IfOk result (λ next. below_next (scope_of scope.new) next ≡ scope_of scope.old) }
-    ensures within { IsWithin units.now (scope_of scope.old) → IfOk result (λ _. IsWithin units.now (scope_of scope.new)) }
-    ensures left { (run.new.left ≤ run.old.left) × (run.old.left ≤ run.new.left + 1) }
-    ensures falls { IsWithin units.now (scope_of scope.old) → IfOk result (λ next. Falls units.now run.new.left (next_weight next) run.old.left (job_weight (job_of work.entry.1))) }
-    ensures bound { L.bound lines.new ≡ L.bound lines.old }
-    ensures taken { L.taken lines.old ≤ L.taken lines.new }
-    ensures long { IsErrOf result Stopped.Long → L.taken lines.new ≡ L.bound lines.new }
-    ensures input { IsErrOf result Stopped.Input → RoseByOne (L.faults lines.old) (L.faults lines.new) }
-    ensures faultless { ¬ (IsErrOf result Stopped.Input) → L.faults lines.new ≡ L.faults lines.old }
-    ensures calls { Called L.reads_on (λ l. (l ≡ lines.old) × (wants_line (now units.now (scope_of scope.old) work.entry.0 (job_of work.entry.1) (state_with run.old targets.old none_yet)) ≡ true)) lines.old lines.new }
-    ensures failed { (IsErrOf result Stopped.Long ⊎ IsErrOf result Stopped.Input) → Failed L.failed (λ l. (l ≡ lines.old) × (wants_line (now units.now (scope_of scope.old) work.entry.0 (job_of work.entry.1) (state_with run.old targets.old none_yet)) ≡ true)) lines.new }
-{
-    match begin_alone(alloc, units, scope, work, run, targets, lines) {
-        Ok(next) => match go_ahead(alloc, scope, next, run, targets) {
-            Ok(on) => Ok(on),
-            Err(halted) => Err(Stopped::Halted(halted)),
-        },
-        Err(stopped) => Err(stopped),
-    }
-}
-
-/// How some work begins.
-fn begin_alone<'a, L: Lines>(
     alloc: Global,
     units: &'a Units,
     scope: &mut Scope<'a>,
@@ -94,14 +62,48 @@ fn begin_alone<'a, L: Lines>(
 {
     let Work(place, job) = work;
     match job {
-        Job::Perform(suite, at) => perform_at(alloc, scope, place, suite, at, run, lines),
-        job => match begin_job(alloc, units, scope, place, job, run, targets) {
-            Ok(next) => Ok(next),
-            Err(halt) => Err(Stopped::Halted(Halted {
-                line: place.line,
-                halt,
-            })),
+        Job::Perform(suite, at) => match perform_at(alloc, scope, place, suite, at, run, lines) {
+            Ok(next) => on_its_line(go_ahead(alloc, scope, next, run, targets)),
+            Err(stopped) => Err(stopped),
         },
+        job => on_its_line(begin_other(alloc, units, scope, place, job, run, targets)),
+    }
+}
+
+/// What was halted takes no line.
+fn on_its_line<'a>(begun: Result<Next<'a>, Halted>) -> Result<Next<'a>, Stopped>
+    ensures ok { IfOk begun.entry (λ next. result ≡ Ok next) }
+    ensures err { IfErr begun.entry (λ halted. result ≡ Err (OnLine halted)) }
+{
+    match begun {
+        Ok(next) => Ok(next),
+        Err(halted) => Err(Stopped::Halted(halted)),
+    }
+}
+
+/// How work begins that is no command, and goes on with what is found at once.
+fn begin_other<'a>(
+    alloc: Global,
+    units: &'a Units,
+    scope: &mut Scope<'a>,
+    place: Place,
+    job: Job<'a>,
+    run: &mut Run,
+    targets: &mut Targets,
+) -> Result<Next<'a>, Halted>
+    requires { IsNoCommand (job_of job) }
+    ensures leads { (lines : List RawLine) (ended : Bool) → Resumes units.now (scope_of scope.new) result (state_of run.new targets.new lines ended) (now units.now (scope_of scope.old) place (job_of job.entry) (state_of run.old targets.old lines ended)) }
+    ensures scope { IfOk result (λ next. below_next (scope_of scope.new) next ≡ scope_of scope.old) }
+    ensures within { IsWithin units.now (scope_of scope.old) → IfOk result (λ _. IsWithin units.now (scope_of scope.new)) }
+    ensures left { (run.new.left ≤ run.old.left) × (run.old.left ≤ run.new.left + 1) }
+    ensures falls { IsWithin units.now (scope_of scope.old) → IfOk result (λ next. Falls units.now run.new.left (next_weight next) run.old.left (job_weight (job_of job.entry))) }
+{
+    match begin_job(alloc, units, scope, place, job, run, targets) {
+        Ok(next) => go_ahead(alloc, scope, next, run, targets),
+        Err(halt) => Err(Halted {
+            line: place.line,
+            halt,
+        }),
     }
 }
 
@@ -188,8 +190,8 @@ pub fn begin_item<'a, L: Lines>(
     perform(alloc, scope, place, action, run, lines)
 }
 
-/// How what waits goes on with a reply, as far as it can at once. A reply of another kind than it waits for fits no type. The scope is
-/// afterwards that of the work that is next.
+/// How what waits goes on with a reply, and then with one more that is found at once, and with the beginning of a suite. A reply of another
+/// kind than it waits for fits no type. The scope is afterwards that of the work that is next.
 pub fn take_up<'a>(
     alloc: Global,
     scope: &mut Scope<'a>,
