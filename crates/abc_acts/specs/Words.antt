@@ -28,15 +28,17 @@ GivesIf view (Ok a) o = o ≡ Some (view a)
 GivesIf view (Err (Fault f)) o = f ≡ Memory
 GivesIf view (Err Wrong) o = o ≡ None
 
--- the elements of a train; the names that a call begins with; its names and formals
+-- the elements of a train
 abbrev pub GivesTrain : Result (List Tree) Halt → Option (List Tree) → Type 0
 GivesTrain r o = GivesIf (λ all. all) r o
 
+-- the names that a call begins with
 abbrev pub GivesNames : Result Frame Halt → Option Frame → Type 0
 GivesNames r o = GivesIf (λ names. names) r o
 
 abbrev pub entry_view : HeldEntry → Entry
 entry_view e = record { names = e.names; formals = map formal_of e.formals }
 
+-- the names and formals of a call
 abbrev pub GivesEntry : Result HeldEntry Halt → Option Entry → Type 0
 GivesEntry r o = GivesIf entry_view r o

@@ -14,7 +14,7 @@ use Rattle.abc_machine.specs.Machine.{WantsOne}
 use Rattle.abc_machine.specs.declared.outcome.Outcome.{Outcome as Ending}
 use Rattle.abc_machine.specs.declared.outcome.RunStop.{RunStop}
 use Rattle.abc_machine.specs.declared.outcome.RunStop.TheVariants.{Input, Long, Memory}
-use Rattle.abc_eval.specs.Runs.{HasMemory, IsRun, WantsLine, as_meant, outcome_of}
+use Rattle.abc_eval.specs.Runs.{TellsNoMemory, IsRun, WantsLine, as_meant, outcome_of}
 use Rattle.abc_eval.specs.inner.Coming.{Comes, IsEnd, end_as, targets_after, targets_after_outcome}
 use Rattle.abc_eval.specs.declared.outcome.Outcome.{Outcome}
 use Rattle.abc_eval.specs.declared.outcome.Outcome.TheVariants.{Done, Quit, Fault}
@@ -83,10 +83,10 @@ outcome_as Done e is = ap machine.outcome_of (sym is)
 outcome_as Quit e is = ap machine.outcome_of (sym is)
 outcome_as (Fault line fault) e is = ap machine.outcome_of (sym is)
 
-memory_as : (o : Outcome) (e : Ending) → end_as o ≡ e → machine.HasMemory e → HasMemory o
+memory_as : (o : Outcome) (e : Ending) → end_as o ≡ e → machine.TellsNoMemory e → TellsNoMemory o
 memory_as Done e is has = tt
 memory_as Quit e is has = tt
-memory_as (Fault line fault) e is has = subst machine.HasMemory (sym is) has
+memory_as (Fault line fault) e is has = subst machine.TellsNoMemory (sym is) has
 
 module _ (e : Ending) (output : List ℕ) (steps : ℕ) where
   -- where the run is told it is what the machine came to
@@ -105,7 +105,7 @@ module _ (e : Ending) (output : List ℕ) (steps : ℕ) where
   comes (Err Input) outcome_is output_is steps_are memory targets unread budget g end ends t o l s = tt
   comes (Err Long) outcome_is output_is steps_are memory targets unread budget g end ends t o l s = absurd (cc)
 
-  pub keeps_memory : (r : Result Ran RunStop) → IfOk r (λ x. end_as x.outcome ≡ e) → machine.HasMemory e → IfOk r (λ x. HasMemory x.outcome)
+  pub keeps_memory : (r : Result Ran RunStop) → IfOk r (λ x. end_as x.outcome ≡ e) → machine.TellsNoMemory e → IfOk r (λ x. TellsNoMemory x.outcome)
   keeps_memory (Ok r) outcome_is has = memory_as r.outcome e outcome_is has
   keeps_memory (Err stop) outcome_is has = tt
 

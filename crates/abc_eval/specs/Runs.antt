@@ -28,9 +28,9 @@ outcome_of Quit = quit
 outcome_of (Fault line fault) = stopped line (faulty fault)
 
 -- no outcome tells of want of memory
-abbrev pub HasMemory : Outcome → Type 0
-HasMemory (Fault line fault) = fault ≢ fault_of.Memory
-HasMemory o = Unit {0}
+abbrev pub TellsNoMemory : Outcome → Type 0
+TellsNoMemory (Fault line fault) = fault ≢ fault_of.Memory
+TellsNoMemory o = Unit {0}
 
 -- a run, with the targets afterwards and the lines left
 abbrev pub as_meant : Ran → Targets → List RawLine → Meant

@@ -10,8 +10,8 @@ ghost use Rattle.abc_ground.specs.Groups.{whole};
 ghost use Rattle.abc_ground.specs.Typable.{IsTypable};
 ghost use Rattle.abc_sound.specs.Checked.{IsNeverWrong};
 ghost use Rattle.abc_value.specs.declared.faults.RunFault.{RunFault};
-ghost use Rattle.abc_machine.specs.Outcomes.{HasMemory as EndHasMemory};
-ghost use Rattle.abc_eval.specs.Runs.{HasMemory, IsAccepted, IsRun, WantsLine, WantsThere};
+ghost use Rattle.abc_machine.specs.Outcomes.{TellsNoMemory as EndTellsNoMemory};
+ghost use Rattle.abc_eval.specs.Runs.{TellsNoMemory, IsAccepted, IsRun, WantsLine, WantsThere};
 ghost use Rattle.abc_machine.specs.Machine.{IsBusy, IsOf, pending, state_within};
 ghost use Rattle.abc_eval.specs.inner.Coming.{Comes, Ends, end_as, targets_after};
 
@@ -50,7 +50,7 @@ pub fn run_item<L: Lines>(
     ensures ran { (input : L.Input) → L.may_be input lines.new → IsRun result targets.new (lines_in (L.unread input lines.new)) (ran units.now MOST_DEPTH c.now targets.old (lines_in (L.unread input lines.old)) (L.unread input lines.old).ends steps) }
     ensures never { (input : L.Input) → IsNeverWrong (ran units.now MOST_DEPTH c.now targets.old (lines_in (L.unread input lines.old)) (L.unread input lines.old).ends steps).outcome }
     ensures typable { (input : L.Input) → L.may_be input lines.new → IsTypable targets.new (whole units.now) }
-    ensures memory { IfOk result (λ r. HasMemory r.outcome) }
+    ensures memory { IfOk result (λ r. TellsNoMemory r.outcome) }
     ensures steps { IfOk result (λ r. r.steps ≤ steps) }
     ensures kept { OnErr result (targets.new ≡ targets.old) }
     ensures faulted { IfOk result (λ r. (line : ℕ) (fault : RunFault) → r.outcome ≡ Outcome.Fault line fault → targets.new ≡ targets.old) }
@@ -84,7 +84,7 @@ fn run<L: Lines>(
 ) -> Result<Ran, RunStop>
     ensures may_be { (input : L.Input) → L.may_be input lines.new → L.may_be input lines.old }
     ensures ran { (input : L.Input) → L.may_be input lines.new → Comes result targets.new (L.unread input lines.new) budget ((meaning units.now (MOST_DEPTH + 1)).acts (standing c.now) c.now.action (starting targets.old (lines_in (L.unread input lines.old)) (L.unread input lines.old).ends budget)) }
-    ensures memory { IfOk result (λ r. HasMemory r.outcome) }
+    ensures memory { IfOk result (λ r. TellsNoMemory r.outcome) }
     ensures steps { IfOk result (λ r. r.steps ≤ budget) }
     ensures bound { L.bound lines.new ≡ L.bound lines.old }
     ensures taken { L.taken lines.old ≤ L.taken lines.new }
@@ -117,7 +117,7 @@ fn drive<'a, L: Lines>(
     requires steps { machine.old.steps ≤ budget }
     ensures may_be { (input : L.Input) → L.may_be input lines.new → L.may_be input lines.old }
     ensures ends { (input : L.Input) → L.may_be input lines.new → Ends result (state_within machine.new targets.new (L.unread input lines.new) budget) (pending units.now machine.old (state_within machine.old targets.old (L.unread input lines.old) budget)) }
-    ensures memory { IfOk result EndHasMemory }
+    ensures memory { IfOk result EndTellsNoMemory }
     ensures steps { machine.new.steps ≤ budget }
     ensures bound { L.bound lines.new ≡ L.bound lines.old }
     ensures taken { L.taken lines.old ≤ L.taken lines.new }

@@ -113,7 +113,7 @@ fn see_table<'a>(alloc: Global, place: Place, pairs: &'a [Pair]) -> Result<Next<
     Ok(Next::Go(Work(place, Job::FillTable(pairs, found))))
 }
 
-/// A name: of an expression refinement, which is work of its own, or of a target.
+/// A name: of an expression refinement, which is work of its own, or one that has a value or none.
 fn see_name<'a>(
     scope: &Scope<'a>,
     place: Place,

@@ -12,7 +12,7 @@ use Rattle.abc_pending.specs.Steps.{state_with}
 use Rattle.abc_pending.specs.Views.{frame_of}
 use Rattle.abc_pending.specs.Weights.{number_of}
 use Rattle.abc_pending.specs.declared.pending.Doing.{Doing}
-use Rattle.abc_machine.specs.Outcomes.{EndsSo, HasMemory}
+use Rattle.abc_machine.specs.Outcomes.{EndsSo, TellsNoMemory}
 use Rattle.abc_machine.specs.Pending.{given, given_weight, frames_weight, AreWithin}
 use Rattle.abc_machine.specs.declared.machine.Machine.{Machine}
 use Rattle.abc_machine.specs.declared.outcome.Stepped.{Stepped}
@@ -76,5 +76,5 @@ IfMore (Err e) t = Unit {0}
 -- an end tells of no want of memory
 abbrev pub EndsWell : Result Stepped RunStop → Type 0
 EndsWell (Ok More) = Unit {0}
-EndsWell (Ok (End o)) = HasMemory o
+EndsWell (Ok (End o)) = TellsNoMemory o
 EndsWell (Err e) = Unit {0}

@@ -6,7 +6,7 @@ use Rattle.abc_meaning.specs.Here.{Scope}
 use Rattle.abc_pending.specs.Pending.{Answer, Frame}
 use Rattle.abc_pending.specs.Leads.{leads}
 use Rattle.abc_pending.specs.Weights.{number_of}
-use Rattle.abc_machine.specs.Outcomes.{EndsSo, HasMemory}
+use Rattle.abc_machine.specs.Outcomes.{EndsSo, TellsNoMemory}
 use Rattle.abc_machine.specs.Machine.{WantsOne}
 use Rattle.abc_machine.specs.Pending.{given, given_weight, frames_weight, AreWithin}
 use Rattle.abc_machine.specs.declared.moves.Moved.{Moved}
@@ -43,5 +43,5 @@ Lessens units (Err e) fs left old left_old = Unit {0}
 -- an end tells of no want of memory
 abbrev pub EndsWell : Result Moved RunStop → Type 0
 EndsWell (Ok (Goes d)) = Unit {0}
-EndsWell (Ok (Ends o)) = HasMemory o
+EndsWell (Ok (Ends o)) = TellsNoMemory o
 EndsWell (Err e) = Unit {0}

@@ -15,9 +15,9 @@ outcome_of (Fault line fault) = stopped line (faulty fault)
 outcome_of (Wrong line) = stopped line wrong
 
 -- no outcome tells of want of memory
-abbrev pub HasMemory : Outcome → Type 0
-HasMemory (Fault line fault) = fault ≢ Memory
-HasMemory o = Unit {0}
+abbrev pub TellsNoMemory : Outcome → Type 0
+TellsNoMemory (Fault line fault) = fault ≢ Memory
+TellsNoMemory o = Unit {0}
 
 -- how a run ends that comes to this answer
 abbrev pub outcome_at : Answer → Meant

@@ -18,7 +18,7 @@ ghost use Rattle.abc_pending.specs.Views.{begin_of, below_next, frame_of, job_of
 ghost use Rattle.abc_pending.specs.Weights.{Falls, IsWithin, action_size, job_weight};
 ghost use Rattle.abc_pending.specs.declared.pending.Doing.TheVariants.{Item};
 ghost use Rattle.abc_pending.specs.declared.pending.Reply.TheVariants.{Went};
-ghost use Rattle.abc_machine.specs.Outcomes.{outcome_at, outcome_of, HasMemory};
+ghost use Rattle.abc_machine.specs.Outcomes.{outcome_at, outcome_of, TellsNoMemory};
 ghost use Rattle.abc_machine.specs.Pending.{given, given_weight, frames_weight, AreWithin};
 ghost use Rattle.abc_machine.specs.Moves.{Follows, IfGoes, Weighs, Lessens, EndsWell};
 
@@ -43,7 +43,7 @@ pub enum Moved<'a> {
 /// How a run ends that comes to this reply.
 fn outcome(reply: Reply) -> Outcome
     ensures outcome { outcome_at (reply_of reply) ≡ outcome_of result }
-    ensures memory { HasMemory result }
+    ensures memory { TellsNoMemory result }
 {
     match reply {
         Reply::Went(exit) => left(exit),
@@ -57,7 +57,7 @@ fn outcome(reply: Reply) -> Outcome
 /// How a run ends whose command ends so.
 fn left(exit: Exit) -> Outcome
     ensures outcome { outcome_at (reply_of (Went exit)) ≡ outcome_of result }
-    ensures memory { HasMemory result }
+    ensures memory { TellsNoMemory result }
 {
     match exit {
         Exit::Quits => Outcome::Quit,

@@ -16,7 +16,8 @@ is_spelled_line line = is_kept_line line.text && not line.long
 abbrev pub are_spelled_lines : List Line → Bool
 are_spelled_lines lines = nat_le 1 (length lines) && (nat_le (length lines) MOST_LINES && list_all is_spelled_line lines)
 
--- the names and lines in a change can be spelled. A unit is taken out by a line that asks for that, whose template is looked at there
+-- The names and lines in a change of a command or of a unit that is set can be spelled. No such change takes a unit out: that is done by a
+-- line that asks for it, whose template is looked at there.
 abbrev pub has_spelling : Change → Bool
 has_spelling (SetTarget name value) = is_kept_name name
 has_spelling (DropTarget name) = is_kept_name name

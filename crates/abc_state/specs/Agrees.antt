@@ -5,7 +5,7 @@ use Rattle.abc_meaning.specs.State.{State, faulty, wrong, Got, gives, stops}
 use Rattle.abc_state.specs.declared.halt.Halt.{Halt}
 use Rattle.abc_state.specs.declared.halt.Halt.TheVariants.{Fault, Wrong}
 
--- The meaning stops so: with this fault, or for no types fit. Want of memory says nothing of it.
+-- The meaning stops so: with this fault, or because no types fit. Want of memory says nothing of it.
 abbrev pub Halts : {B : Type 0} → ℕ → Halt → State → Got B → Type 0
 Halts line (Fault f) s g = f ≢ Memory → g ≡ stops line (faulty f) s
 Halts line Wrong s g = g ≡ stops line wrong s
