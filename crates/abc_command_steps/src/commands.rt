@@ -11,8 +11,8 @@ ghost use Rattle.abc_meaning.specs.Meaning.{meaning};
 ghost use Rattle.std.specs.Option.{option_map};
 ghost use Rattle.abc_state.specs.Agrees.{Agrees};
 ghost use Rattle.abc_state.specs.Views.{at as standing_at, address_of, flow_of, scope_of, state_of};
-ghost use Rattle.abc_pending.specs.Leads.{as_flow, change_by, doing, done, now, resume_action, resume_address, resume_flow};
-ghost use Rattle.abc_pending.specs.Pending.{turn, turns_over, while_body};
+ghost use Rattle.abc_pending.specs.Leads.{as_flow, as_truth, change_by, doing, done, now, resume, resume_action, resume_address, resume_flow};
+ghost use Rattle.abc_pending.specs.Pending.{for_truth, turn, turns_over, while_body, while_test};
 ghost use Rattle.abc_pending.specs.Views.{Begins, action_frame, begin_of, below_next, job_of, next_weight, spot_frame};
 ghost use Rattle.abc_pending.specs.Weights.{Falls, action_weight, address_weight, expr_size, job_weight, suite_size, test_size};
 
@@ -22,16 +22,17 @@ use abc_frames::Targets;
 use abc_num::Boxed;
 use abc_pending::{
     Changes, ForAction, ForFlow, ForSpot, ForTruth, Job, Next, Place, Reply, Waiting, Work,
-    spot_at_once,
+    spot_at_once, truth_at_once, while_tested,
 };
 use abc_state::{Exit, Halt, Run, Scope, Spot, located, selected, stepped, whole};
 use abc_tree::{Bound, Expr, Suite, Test};
 use abc_value::{RunFault, Value};
 use std::alloc::Global;
 
-/// A turn of WHILE, which is a step, and behind which so many may come.
+/// A turn of WHILE, which is a step, and behind which so many may come. Where its test is found at once it is answered so.
 #[tactic(auto, using(crate::proofs::Levels::meaning_turn, crate::proofs::Levels::turn_at_zero, crate::proofs::Levels::turns_begin))]
 pub fn turn<'a>(
+    alloc: Global,
     scope: &Scope<'a>,
     place: Place,
     turns: u64,
@@ -43,16 +44,38 @@ pub fn turn<'a>(
     ensures leads { (units : List Routine) (lines : List RawLine) (ended : Bool) → Begins units (scope_of scope.now) place.line result (state_of run.new targets.now lines ended) (doing units (meaning units place.levels) (standing_at (scope_of scope.now) place.line) (turn turns test.now suite.now) (state_of run.old targets.now lines ended)) }
     ensures scope { IfOk result (λ next. below_next (scope_of scope.now) next ≡ (scope_of scope.now)) }
     ensures left { (run.new.left ≤ run.old.left) × (run.old.left ≤ run.new.left + 1) }
-    ensures falls { IfOk result (λ next. (run.new.left + 1 ≡ run.old.left) × (next_weight next ≡ 5 + test_size test.now + suite_size suite.now + suite_size suite.now + test_size test.now)) }
+    ensures falls { IfOk result (λ next. (run.new.left + 1 ≡ run.old.left) × (next_weight next ≤ 5 + test_size test.now + suite_size suite.now + suite_size suite.now + test_size test.now)) }
 {
     if place.levels == 0 {
         return Err(Halt::Fault(RunFault::TooDeep));
     }
     run.spend()?;
-    Ok(Next::Wait(
-        Waiting::Truth(place, ForTruth::WhileTest(turns, test, suite)),
-        Work(place, Job::Try(test)),
-    ))
+    tested(alloc, scope, place, turns, test, suite, run, targets)
+}
+
+/// How the test of a turn goes on: with its answer, where it is found at once, and else the turn waits for it.
+#[tactic(auto, using(abc_pending::proofs::GoingOn::test_stops, abc_pending::proofs::GoingOn::test_goes))]
+fn tested<'a>(
+    alloc: Global,
+    scope: &Scope<'a>,
+    place: Place,
+    turns: u64,
+    test: &'a Test,
+    suite: &'a Suite,
+    run: &Run,
+    targets: &Targets,
+) -> Result<Next<'a>, Halt>
+    ensures leads { (units : List Routine) (lines : List RawLine) (ended : Bool) → Begins units (scope_of scope.now) place.line result (state_of run.now targets.now lines ended) (after (as_truth ((meaning units place.levels).holds (standing_at (scope_of scope.now) place.line) test.now (state_of run.now targets.now lines ended))) (resume units (scope_of scope.now) (for_truth place (while_test turns test.now suite.now)))) }
+    ensures scope { IfOk result (λ next. below_next (scope_of scope.now) next ≡ (scope_of scope.now)) }
+    ensures falls { IfOk result (λ next. next_weight next ≤ 5 + test_size test.now + suite_size suite.now + suite_size suite.now + test_size test.now) }
+{
+    match truth_at_once(alloc, scope, place, test, run, targets)? {
+        Some(truth) => Ok(while_tested(place, turns, test, suite, truth)),
+        None => Ok(Next::Wait(
+            Waiting::Truth(place, ForTruth::WhileTest(turns, test, suite)),
+            Work(place, Job::Try(test)),
+        )),
+    }
 }
 
 /// The next turn of WHILE, behind a suite that ended so. As many turns are left as were steps at its beginning.
@@ -187,7 +210,7 @@ fn change_there<'a>(
 
 /// The same at the address that an expression is: at once where it is found so.
 #[tactic(auto, using(crate::proofs::Changing::address_goes, crate::proofs::Changing::address_stops))]
-fn change_at<'a>(
+pub(crate) fn change_at<'a>(
     alloc: Global,
     scope: &Scope<'a>,
     place: Place,

@@ -16,30 +16,33 @@ ghost use Rattle.abc_state.specs.declared.halt.Halt.TheVariants.{Fault};
 ghost use Rattle.abc_meaning.specs.Addresses.{address as address_by};
 ghost use Rattle.abc_meaning.specs.Acts.{acts_with};
 ghost use Rattle.abc_meaning.specs.Calls.{suite as commands, then_on};
+ghost use Rattle.abc_meaning.specs.PutBack.{command_call};
+ghost use Rattle.abc_tree.specs.Units.{unit_of};
 ghost use Rattle.abc_meaning.specs.Meaning.{meaning};
 ghost use Rattle.abc_state.specs.Words.{with_lines};
 ghost use Rattle.abc_state.specs.Views.{at as standing_at, flow_of, scope_of, state_of};
-ghost use Rattle.abc_pending.specs.Leads.{as_flow, change_by, doing, done, first_of};
-ghost use Rattle.abc_pending.specs.Pending.{choose, perform_all};
+ghost use Rattle.abc_pending.specs.Leads.{as_flow, as_truth, as_val, change_by, doing, done, first_of, resume};
+ghost use Rattle.abc_pending.specs.Pending.{change_value, choose, for_truth, if_test, in_action, perform_all};
 ghost use Rattle.abc_pending.specs.Steps.{state_with, stop_of, Starts, TakesNoLine};
-ghost use Rattle.abc_pending.specs.declared.pending.Next.TheVariants.{Give, Wait};
+ghost use Rattle.abc_pending.specs.declared.pending.Next.TheVariants.{Give, Go, Wait};
 ghost use Rattle.abc_pending.specs.declared.pending.Reply.TheVariants.{Went};
 ghost use Rattle.abc_pending.specs.declared.pending.Waiting.TheVariants as waiting;
-ghost use Rattle.abc_pending.specs.declared.pending.ForAction.TheVariants.{ChangeValue};
 ghost use Rattle.abc_pending.specs.declared.pending.Job.TheVariants.{See, Try};
 ghost use Rattle.abc_pending.specs.declared.stopped.Stopped.TheVariants.{Halted as OnLine};
 ghost use Rattle.abc_pending.specs.Views.{Begins, begin_of, below_next, next_weight};
-ghost use Rattle.abc_pending.specs.Weights.{Falls, action_size, alternatives_size, expr_size, first_size, if_expr, node_size, suite_size};
+ghost use Rattle.abc_pending.specs.Weights.{Falls, action_size, alternatives_size, expr_size, exprs_size, first_size, if_expr, node_size, suite_size, test_size};
 
+use crate::commands::change_at;
+use abc_frames::Targets;
 use abc_num::Items;
 use abc_num::limits::MOST_TREE_HEIGHT;
 use abc_outside::Lines;
 use abc_pending::{
     Changes, ForAction, ForFlow, ForSpot, ForTruth, Halted, Job, Next, Place, Reply, Stopped,
-    Waiting, Work,
+    Waiting, Work, if_tested, truth_at_once, value_at_once,
 };
 use abc_state::{Exit, Halt, LineHalt, Run, Scope, literal_value, raw_value, take_line};
-use abc_tree::{Action, ActionNode, Alternatives, Expr, Suite, Test};
+use abc_tree::{Action, ActionNode, Alternatives, Expr, Exprs, Suite, Template, Test};
 use abc_value::{RunFault, Value};
 use std::alloc::Global;
 
@@ -127,10 +130,11 @@ pub fn perform_at<'a, L: Lines>(
     suite: &'a Suite,
     at: usize,
     run: &mut Run,
+    targets: &mut Targets,
     lines: &mut L,
 ) -> Result<Next<'a>, Stopped>
     ensures may_be { (input : L.Input) → L.may_be input lines.new → L.may_be input lines.old }
-    ensures leads { (units : List Routine) (targets : Store) (input : L.Input) → L.may_be input lines.new → Starts units (scope_of scope.now) result (state_with run.new targets (L.unread input lines.old)) (state_with run.new targets (L.unread input lines.new)) (as_flow (first_of units (meaning units place.levels) (standing_at (scope_of scope.now) place.line) (drop at suite.now) (state_with run.old targets (L.unread input lines.old)))) }
+    ensures leads { (units : List Routine) (input : L.Input) → L.may_be input lines.new → Starts units (scope_of scope.now) result (state_with run.new targets.new (L.unread input lines.old)) (state_with run.new targets.new (L.unread input lines.new)) (as_flow (first_of units (meaning units place.levels) (standing_at (scope_of scope.now) place.line) (drop at suite.now) (state_with run.old targets.old (L.unread input lines.old)))) }
     ensures scope { IfOk result (λ next. below_next (scope_of scope.now) next ≡ scope_of scope.now) }
     ensures left { (run.new.left ≤ run.old.left) × (run.old.left ≤ run.new.left + 1) }
     ensures falls { (units : List Routine) → IfOk result (λ next. Falls units run.new.left (next_weight next) run.old.left (first_size (drop at suite.now))) }
@@ -139,12 +143,12 @@ pub fn perform_at<'a, L: Lines>(
     ensures long { IsErrOf result Stopped.Long → L.taken lines.new ≡ L.bound lines.new }
     ensures input { IsErrOf result Stopped.Input → RoseByOne (L.faults lines.old) (L.faults lines.new) }
     ensures faultless { ¬ (IsErrOf result Stopped.Input) → L.faults lines.new ≡ L.faults lines.old }
-    ensures calls { Called L.reads_on (λ l. (l ≡ lines.old) × ((units : List Routine) (targets : Store) → wants_line (as_flow (first_of units (meaning units place.levels) (standing_at (scope_of scope.now) place.line) (drop at suite.now) (state_with run.old targets none_yet))) ≡ true)) lines.old lines.new }
-    ensures failed { (IsErrOf result Stopped.Long ⊎ IsErrOf result Stopped.Input) → Failed L.failed (λ l. (l ≡ lines.old) × ((units : List Routine) (targets : Store) → wants_line (as_flow (first_of units (meaning units place.levels) (standing_at (scope_of scope.now) place.line) (drop at suite.now) (state_with run.old targets none_yet))) ≡ true)) lines.new }
+    ensures calls { Called L.reads_on (λ l. (l ≡ lines.old) × ((units : List Routine) (held : Store) → wants_line (as_flow (first_of units (meaning units place.levels) (standing_at (scope_of scope.now) place.line) (drop at suite.now) (state_with run.old held none_yet))) ≡ true)) lines.old lines.new }
+    ensures failed { (IsErrOf result Stopped.Long ⊎ IsErrOf result Stopped.Input) → Failed L.failed (λ l. (l ≡ lines.old) × ((units : List Routine) (held : Store) → wants_line (as_flow (first_of units (meaning units place.levels) (standing_at (scope_of scope.now) place.line) (drop at suite.now) (state_with run.old held none_yet))) ≡ true)) lines.new }
 {
     match front(suite, at) {
         None => Ok(Next::Give(Reply::Went(Exit::GoesOn))),
-        Some((action, _behind)) => perform(alloc, scope, place, action, run, lines),
+        Some((action, _behind)) => perform(alloc, scope, place, action, run, targets, lines),
     }
 }
 
@@ -156,10 +160,11 @@ pub fn perform<'a, L: Lines>(
     place: Place,
     action: &'a Action,
     run: &mut Run,
+    targets: &mut Targets,
     lines: &mut L,
 ) -> Result<Next<'a>, Stopped>
     ensures may_be { (input : L.Input) → L.may_be input lines.new → L.may_be input lines.old }
-    ensures leads { (units : List Routine) (targets : Store) (input : L.Input) → L.may_be input lines.new → Starts units (scope_of scope.now) result (state_with run.new targets (L.unread input lines.old)) (state_with run.new targets (L.unread input lines.new)) (as_flow ((meaning units place.levels).acts (standing_at (scope_of scope.now) place.line) action.now (state_with run.old targets (L.unread input lines.old)))) }
+    ensures leads { (units : List Routine) (input : L.Input) → L.may_be input lines.new → Starts units (scope_of scope.now) result (state_with run.new targets.new (L.unread input lines.old)) (state_with run.new targets.new (L.unread input lines.new)) (as_flow ((meaning units place.levels).acts (standing_at (scope_of scope.now) place.line) action.now (state_with run.old targets.old (L.unread input lines.old)))) }
     ensures scope { IfOk result (λ next. below_next (scope_of scope.now) next ≡ scope_of scope.now) }
     ensures left { (run.new.left ≤ run.old.left) × (run.old.left ≤ run.new.left + 1) }
     ensures falls { IfOk result (λ next. (run.new.left + 1 ≡ run.old.left) × (next_weight next < action_size action.now)) }
@@ -168,8 +173,8 @@ pub fn perform<'a, L: Lines>(
     ensures long { IsErrOf result Stopped.Long → L.taken lines.new ≡ L.bound lines.new }
     ensures input { IsErrOf result Stopped.Input → RoseByOne (L.faults lines.old) (L.faults lines.new) }
     ensures faultless { ¬ (IsErrOf result Stopped.Input) → L.faults lines.new ≡ L.faults lines.old }
-    ensures calls { Called L.reads_on (λ l. (l ≡ lines.old) × ((units : List Routine) (targets : Store) → wants_line (as_flow ((meaning units place.levels).acts (standing_at (scope_of scope.now) place.line) action.now (state_with run.old targets none_yet))) ≡ true)) lines.old lines.new }
-    ensures failed { (IsErrOf result Stopped.Long ⊎ IsErrOf result Stopped.Input) → Failed L.failed (λ l. (l ≡ lines.old) × ((units : List Routine) (targets : Store) → wants_line (as_flow ((meaning units place.levels).acts (standing_at (scope_of scope.now) place.line) action.now (state_with run.old targets none_yet))) ≡ true)) lines.new }
+    ensures calls { Called L.reads_on (λ l. (l ≡ lines.old) × ((units : List Routine) (held : Store) → wants_line (as_flow ((meaning units place.levels).acts (standing_at (scope_of scope.now) place.line) action.now (state_with run.old held none_yet))) ≡ true)) lines.old lines.new }
+    ensures failed { (IsErrOf result Stopped.Long ⊎ IsErrOf result Stopped.Input) → Failed L.failed (λ l. (l ≡ lines.old) × ((units : List Routine) (held : Store) → wants_line (as_flow ((meaning units place.levels).acts (standing_at (scope_of scope.now) place.line) action.now (state_with run.old held none_yet))) ≡ true)) lines.new }
 {
     let line = scope.line_at(action.line, place.line);
     if place.levels == 0 {
@@ -180,7 +185,7 @@ pub fn perform<'a, L: Lines>(
         levels: place.levels - 1,
     };
     match run.spend() {
-        Ok(()) => act(alloc, inner, &action.node, run, lines),
+        Ok(()) => act(alloc, scope, inner, &action.node, run, targets, lines),
         Err(halt) => Err(Stopped::Halted(Halted { line, halt })),
     }
 }
@@ -198,14 +203,16 @@ fn too_deep(line: u32) -> Stopped
 /// What a command does first, once it is a step.
 fn act<'a, L: Lines>(
     alloc: Global,
+    scope: &Scope<'a>,
     place: Place,
     node: &'a ActionNode,
     run: &mut Run,
+    targets: &mut Targets,
     lines: &mut L,
 ) -> Result<Next<'a>, Stopped>
     ensures may_be { (input : L.Input) → L.may_be input lines.new → L.may_be input lines.old }
-    ensures leads { (units : List Routine) (scope : Names) (targets : Store) (input : L.Input) → L.may_be input lines.new → Starts units scope result (state_with run.new targets (L.unread input lines.old)) (state_with run.new targets (L.unread input lines.new)) (as_flow (acts_with units (meaning units place.levels) (standing_at scope place.line) (out-ActionNode node.now) (state_with run.old targets (L.unread input lines.old)))) }
-    ensures scope { (scope : Names) → IfOk result (λ next. below_next scope next ≡ scope) }
+    ensures leads { (units : List Routine) (input : L.Input) → L.may_be input lines.new → Starts units (scope_of scope.now) result (state_with run.new targets.new (L.unread input lines.old)) (state_with run.new targets.new (L.unread input lines.new)) (as_flow (acts_with units (meaning units place.levels) (standing_at (scope_of scope.now) place.line) (out-ActionNode node.now) (state_with run.old targets.old (L.unread input lines.old)))) }
+    ensures scope { IfOk result (λ next. below_next (scope_of scope.now) next ≡ scope_of scope.now) }
     ensures left { run.new.left ≡ run.old.left }
     ensures falls { IfOk result (λ next. next_weight next < node_size node.now) }
     ensures bound { L.bound lines.new ≡ L.bound lines.old }
@@ -213,15 +220,15 @@ fn act<'a, L: Lines>(
     ensures long { IsErrOf result Stopped.Long → L.taken lines.new ≡ L.bound lines.new }
     ensures input { IsErrOf result Stopped.Input → RoseByOne (L.faults lines.old) (L.faults lines.new) }
     ensures faultless { ¬ (IsErrOf result Stopped.Input) → L.faults lines.new ≡ L.faults lines.old }
-    ensures calls { Called L.reads_on (λ l. (l ≡ lines.old) × ((units : List Routine) (scope : Names) (targets : Store) → wants_line (as_flow (acts_with units (meaning units place.levels) (standing_at scope place.line) (out-ActionNode node.now) (state_with run.old targets none_yet))) ≡ true)) lines.old lines.new }
-    ensures failed { (IsErrOf result Stopped.Long ⊎ IsErrOf result Stopped.Input) → Failed L.failed (λ l. (l ≡ lines.old) × ((units : List Routine) (scope : Names) (targets : Store) → wants_line (as_flow (acts_with units (meaning units place.levels) (standing_at scope place.line) (out-ActionNode node.now) (state_with run.old targets none_yet))) ≡ true)) lines.new }
+    ensures calls { Called L.reads_on (λ l. (l ≡ lines.old) × ((units : List Routine) (names : Names) (held : Store) → wants_line (as_flow (acts_with units (meaning units place.levels) (standing_at names place.line) (out-ActionNode node.now) (state_with run.old held none_yet))) ≡ true)) lines.old lines.new }
+    ensures failed { (IsErrOf result Stopped.Long ⊎ IsErrOf result Stopped.Input) → Failed L.failed (λ l. (l ≡ lines.old) × ((units : List Routine) (names : Names) (held : Store) → wants_line (as_flow (acts_with units (meaning units place.levels) (standing_at names place.line) (out-ActionNode node.now) (state_with run.old held none_yet))) ≡ true)) lines.new }
 {
     match node {
         ActionNode::ReadExample { address, example } => {
             read_example(alloc, place, address, example, lines)
         }
         ActionNode::ReadRaw { address } => read_raw(alloc, place, address, lines),
-        node => match act_alone(alloc, place, node, run) {
+        node => match act_alone(alloc, scope, place, node, run, targets) {
             Ok(next) => Ok(next),
             Err(halt) => Err(Stopped::Halted(Halted {
                 line: place.line,
@@ -232,16 +239,18 @@ fn act<'a, L: Lines>(
 }
 
 /// The same of a command that takes no line.
-#[tactic(auto, using(crate::proofs::Acting::put_later, crate::proofs::Acting::insert_later, crate::proofs::Acting::remove_later, crate::proofs::Acting::deleted, crate::proofs::Acting::check_later))]
+#[tactic(auto, using(crate::proofs::Acting::deleted, crate::proofs::Acting::check_later, crate::proofs::Acting::if_later))]
 fn act_alone<'a>(
     alloc: Global,
+    scope: &Scope<'a>,
     place: Place,
     node: &'a ActionNode,
     run: &mut Run,
+    targets: &mut Targets,
 ) -> Result<Next<'a>, Halt>
     requires { TakesNoLine (out-ActionNode node.now) }
-    ensures leads { (units : List Routine) (scope : Names) (targets : Store) (lines : List RawLine) (ended : Bool) → Begins units scope place.line result (state_of run.new targets lines ended) (as_flow (acts_with units (meaning units place.levels) (standing_at scope place.line) (out-ActionNode node.now) (state_of run.old targets lines ended))) }
-    ensures scope { (scope : Names) → IfOk result (λ next. below_next scope next ≡ scope) }
+    ensures leads { (units : List Routine) (lines : List RawLine) (ended : Bool) → Begins units (scope_of scope.now) place.line result (state_of run.new targets.new lines ended) (as_flow (acts_with units (meaning units place.levels) (standing_at (scope_of scope.now) place.line) (out-ActionNode node.now) (state_of run.old targets.old lines ended))) }
+    ensures scope { IfOk result (λ next. below_next (scope_of scope.now) next ≡ scope_of scope.now) }
     ensures left { run.new.left ≡ run.old.left }
     ensures falls { IfOk result (λ next. next_weight next < node_size node.now) }
 {
@@ -251,19 +260,26 @@ fn act_alone<'a>(
             part,
             after,
         } => write(alloc, place, *before, part, *after, run),
-        ActionNode::Put { value, address } => Ok(change(place, Changes::Put, value, address)),
-        ActionNode::Insert { value, address } => Ok(change(place, Changes::Insert, value, address)),
-        ActionNode::Remove { value, address } => Ok(change(place, Changes::Remove, value, address)),
+        ActionNode::Put { value, address } => {
+            let what = Changes::Put;
+            change(alloc, scope, place, what, value, address, run, targets)
+        }
+        ActionNode::Insert { value, address } => {
+            let what = Changes::Insert;
+            change(alloc, scope, place, what, value, address, run, targets)
+        }
+        ActionNode::Remove { value, address } => {
+            let what = Changes::Remove;
+            change(alloc, scope, place, what, value, address, run, targets)
+        }
         ActionNode::Delete { address } => Ok(delete(place, address)),
         ActionNode::ReadExample { .. } => unreachable!(),
         ActionNode::ReadRaw { .. } => unreachable!(),
         ActionNode::Check(test) => Ok(try_for(place, ForTruth::CheckTest, test)),
         ActionNode::Pass => Ok(leaving(Exit::GoesOn)),
-        ActionNode::If(test, suite) => Ok(try_for(place, ForTruth::IfTest(suite), test)),
-        ActionNode::Select(all) => Ok(Next::Go(Work(place, Job::Choose(all, 0)))),
-        ActionNode::While(test, suite) => {
-            Ok(Next::Go(Work(place, Job::Turn(run.left, test, suite))))
-        }
+        ActionNode::If(test, suite) => if_first(alloc, scope, place, test, suite, run, targets),
+        ActionNode::Select(all) => Ok(go(place, Job::Choose(all, 0))),
+        ActionNode::While(test, suite) => Ok(go(place, Job::Turn(run.left, test, suite))),
         ActionNode::For {
             names,
             train,
@@ -274,11 +290,8 @@ fn act_alone<'a>(
         ActionNode::Report(test) => Ok(try_for(place, ForTruth::ReportTest, test)),
         ActionNode::Succeed => Ok(leaving(Exit::Reports(true))),
         ActionNode::Fail => Ok(leaving(Exit::Reports(false))),
-        ActionNode::Call(template, es) => Ok(Next::Go(Work(
-            place,
-            Job::SeeActuals(template, es.as_slice(), Vec::new(alloc)),
-        ))),
-        ActionNode::Refinement(name) => Ok(Next::Go(Work(place, Job::RefineCommand(name)))),
+        ActionNode::Call(template, es) => Ok(call(alloc, place, template, es)),
+        ActionNode::Refinement(name) => Ok(go(place, Job::RefineCommand(name))),
     }
 }
 
@@ -287,6 +300,23 @@ fn leaving<'a>(exit: Exit) -> Next<'a>
     ensures { result ≡ Give (Went exit) }
 {
     Next::Give(Reply::Went(exit))
+}
+
+/// A command that is other work.
+fn go<'a>(place: Place, job: Job<'a>) -> Next<'a>
+    ensures { result ≡ Go (record { 0 = place; 1 = job.entry }) }
+{
+    Next::Go(Work(place, job))
+}
+
+/// A call: its actuals come first.
+fn call<'a>(alloc: Global, place: Place, template: &'a Template, es: &'a Exprs) -> Next<'a>
+    ensures leads { (units : List Routine) (scope : Names) (s : State) → as_flow (command_call (meaning units place.levels) (standing_at scope place.line) (unit_of template.now units) es.now s) ≡ begin_of units scope result s }
+    ensures scope { (scope : Names) → below_next scope result ≡ scope }
+    ensures falls { next_weight result ≡ 3 + exprs_size es.now }
+{
+    let found = Vec::new(alloc);
+    go(place, Job::SeeActuals(template, es.as_slice(), found))
 }
 
 /// A command that needs a value first.
@@ -301,6 +331,27 @@ fn try_for<'a>(place: Place, frame: ForTruth<'a>, test: &'a Test) -> Next<'a>
     ensures { result ≡ Wait (waiting.Truth place frame.entry) (record { 0 = place; 1 = Try test.entry }) }
 {
     Next::Wait(Waiting::Truth(place, frame), Work(place, Job::Try(test)))
+}
+
+/// IF: its test comes first. Where it is found at once the command goes on with its answer.
+#[tactic(auto, using(abc_pending::proofs::GoingOn::test_stops, abc_pending::proofs::GoingOn::test_goes))]
+fn if_first<'a>(
+    alloc: Global,
+    scope: &Scope<'a>,
+    place: Place,
+    test: &'a Test,
+    suite: &'a Suite,
+    run: &Run,
+    targets: &Targets,
+) -> Result<Next<'a>, Halt>
+    ensures leads { (units : List Routine) (lines : List RawLine) (ended : Bool) → Begins units (scope_of scope.now) place.line result (state_of run.now targets.now lines ended) (after (as_truth ((meaning units place.levels).holds (standing_at (scope_of scope.now) place.line) test.now (state_of run.now targets.now lines ended))) (resume units (scope_of scope.now) (for_truth place (if_test suite.now)))) }
+    ensures scope { IfOk result (λ next. below_next (scope_of scope.now) next ≡ scope_of scope.now) }
+    ensures falls { IfOk result (λ next. next_weight next < 4 + test_size test.now + suite_size suite.now) }
+{
+    match truth_at_once(alloc, scope, place, test, run, targets)? {
+        Some(truth) => Ok(if_tested(place, suite, truth)),
+        None => Ok(try_for(place, ForTruth::IfTest(suite), test)),
+    }
 }
 
 /// WRITE: without a part it is written at once.
@@ -327,11 +378,27 @@ fn write<'a>(
     }
 }
 
-/// PUT, INSERT and REMOVE: the value comes before the keys of the address.
-fn change<'a>(place: Place, what: Changes, value: &'a Expr, address: &'a Expr) -> Next<'a>
-    ensures { result ≡ Wait (waiting.Action place (ChangeValue what address.entry)) (record { 0 = place; 1 = See value.entry }) }
+/// PUT, INSERT and REMOVE: the value comes before the keys of the address. Where it is found at once the change goes on with it.
+#[tactic(auto, using(abc_pending::proofs::GoingOn::wait_stops, abc_pending::proofs::GoingOn::wait_goes, abc_pending::proofs::Falling::lighter))]
+fn change<'a>(
+    alloc: Global,
+    scope: &Scope<'a>,
+    place: Place,
+    what: Changes,
+    value: &'a Expr,
+    address: &'a Expr,
+    run: &mut Run,
+    targets: &mut Targets,
+) -> Result<Next<'a>, Halt>
+    ensures leads { (units : List Routine) (lines : List RawLine) (ended : Bool) → Begins units (scope_of scope.now) place.line result (state_of run.new targets.new lines ended) (after (as_val ((meaning units place.levels).value (standing_at (scope_of scope.now) place.line) value.now (state_of run.old targets.old lines ended))) (resume units (scope_of scope.now) (in_action place (change_value what address.now)))) }
+    ensures scope { IfOk result (λ next. below_next (scope_of scope.now) next ≡ scope_of scope.now) }
+    ensures left { run.new.left ≡ run.old.left }
+    ensures falls { IfOk result (λ next. next_weight next < 6 + expr_size value.now + expr_size address.now) }
 {
-    see_for(place, ForAction::ChangeValue(what, address), value)
+    match value_at_once(alloc, scope, place, value, run, targets)? {
+        Some(found) => change_at(alloc, scope, place, what, found, address, run, targets),
+        None => Ok(see_for(place, ForAction::ChangeValue(what, address), value)),
+    }
 }
 
 /// DELETE: the keys of the address, and then what is there.

@@ -199,10 +199,11 @@ fn begin_command<'a, L: Lines>(
     action: &'a Action,
     frames: &mut Stack<Waiting<'a>>,
     run: &mut Run,
+    targets: &mut Targets,
     lines: &mut L,
 ) -> Result<Moved<'a>, RunStop>
     ensures may_be { (input : L.Input) → L.may_be input lines.new → L.may_be input lines.old }
-    ensures leads { (units : List Routine) (targets : Store) (input : L.Input) → L.may_be input lines.new → Follows units (scope_of scope.now) result (map frame_of frames.new) (state_with run.new targets (L.unread input lines.new)) (leads units (scope_of scope.now) (map frame_of frames.old) (given units (scope_of scope.now) (Item place action.entry) (state_with run.old targets (L.unread input lines.old)))) }
+    ensures leads { (units : List Routine) (input : L.Input) → L.may_be input lines.new → Follows units (scope_of scope.now) result (map frame_of frames.new) (state_with run.new targets.new (L.unread input lines.new)) (leads units (scope_of scope.now) (map frame_of frames.old) (given units (scope_of scope.now) (Item place action.entry) (state_with run.old targets.old (L.unread input lines.old)))) }
     ensures within { (units : List Routine) → AreWithin units (scope_of scope.now) (map frame_of frames.old) → IfGoes result (AreWithin units (scope_of scope.now) (map frame_of frames.new)) }
     ensures left { (run.new.left ≤ run.old.left) × (run.old.left ≤ run.new.left + 1) }
     ensures falls { (units : List Routine) → Lessens units result (map frame_of frames.new) run.new.left (action_size action.now + frames_weight (map frame_of frames.old)) run.old.left }
@@ -212,10 +213,10 @@ fn begin_command<'a, L: Lines>(
     ensures long { IsErrOf result RunStop.Long → L.taken lines.new ≡ L.bound lines.new }
     ensures input { IsErrOf result RunStop.Input → RoseByOne (L.faults lines.old) (L.faults lines.new) }
     ensures faultless { ¬ (IsErrOf result RunStop.Input) → L.faults lines.new ≡ L.faults lines.old }
-    ensures calls { Called L.reads_on (λ l. (l ≡ lines.old) × ((units : List Routine) (targets : Store) → wants_line (leads units (scope_of scope.now) (map frame_of frames.old) (given units (scope_of scope.now) (Item place action.entry) (state_with run.old targets none_yet))) ≡ true)) lines.old lines.new }
-    ensures failed { (IsErrOf result RunStop.Long ⊎ IsErrOf result RunStop.Input) → Failed L.failed (λ l. (l ≡ lines.old) × ((units : List Routine) (targets : Store) → wants_line (leads units (scope_of scope.now) (map frame_of frames.old) (given units (scope_of scope.now) (Item place action.entry) (state_with run.old targets none_yet))) ≡ true)) lines.new }
+    ensures calls { Called L.reads_on (λ l. (l ≡ lines.old) × ((units : List Routine) (held : Store) → wants_line (leads units (scope_of scope.now) (map frame_of frames.old) (given units (scope_of scope.now) (Item place action.entry) (state_with run.old held none_yet))) ≡ true)) lines.old lines.new }
+    ensures failed { (IsErrOf result RunStop.Long ⊎ IsErrOf result RunStop.Input) → Failed L.failed (λ l. (l ≡ lines.old) × ((units : List Routine) (held : Store) → wants_line (leads units (scope_of scope.now) (map frame_of frames.old) (given units (scope_of scope.now) (Item place action.entry) (state_with run.old held none_yet))) ≡ true)) lines.new }
 {
-    match begin_item(alloc, scope, place, action, run, lines) {
+    match begin_item(alloc, scope, place, action, run, targets, lines) {
         Ok(next) => go_on(frames, next),
         Err(Stopped::Halted(stop)) => halted(stop),
         Err(Stopped::Long) => Err(RunStop::Long),
@@ -250,7 +251,7 @@ pub fn advance<'a, L: Lines>(
 {
     match doing {
         Doing::Item(place, action) => {
-            begin_command(alloc, scope, place, action, frames, run, lines)
+            begin_command(alloc, scope, place, action, frames, run, targets, lines)
         }
         Doing::Work(work) => work_on(alloc, units, scope, work, frames, run, targets, lines),
         Doing::Answered(reply) => answer(alloc, scope, reply, frames, run, targets),

@@ -8,6 +8,7 @@ mod pending;
 mod place;
 mod replies;
 mod stopped;
+mod tested;
 
 pub use addressed::spot_at_once;
 pub use at_once::{HEIGHT_AT_ONCE, truth_at_once, value_at_once};
@@ -18,3 +19,4 @@ pub use pending::{
 pub use place::{Changes, Place, Wanted};
 pub use replies::{actual_in, exit_in, spot_in, truth_in, value_in};
 pub use stopped::{Halted, Stopped};
+pub use tested::{if_tested, while_tested};

@@ -1,5 +1,5 @@
 -- How much lighter the work is that some work begins.
-use Rattle.std.proofs.Common.{◌≡◌, ◌<◌, ◌+◌, ℕ, List, Result, Ok, Err, IfOk, sym, subst, arith}
+use Rattle.std.proofs.Common.{◌≡◌, ◌<◌, ◌≤◌, ◌+◌, ℕ, List, Result, Ok, Err, IfOk, sym, subst, arith}
 use Rattle.abc_tree.specs.declared.commands.Unit.{Unit as Routine}
 use Rattle.abc_pending.specs.declared.pending.Next.{Next}
 use Rattle.abc_pending.specs.Views.{next_weight}
@@ -24,14 +24,14 @@ module _ (us : List Routine) (l k b : ℕ) where
     falls_so n e h = subst (λ m. IfOk r (λ next. Falls us l (next_weight next) k m)) (sym e) h
 
 -- a step was spent for a turn of WHILE
-turn_falls : {E : Type 0} (us : List Routine) (l k t s : ℕ) (r : Result Next E) → IfOk r (λ next. (l + 1 ≡ k) × (next_weight next ≡ 5 + t + s + s + t)) → IfOk r (λ next. Falls us l (next_weight next) k (2 + t + s))
+turn_falls : {E : Type 0} (us : List Routine) (l k t s : ℕ) (r : Result Next E) → IfOk r (λ next. (l + 1 ≡ k) × (next_weight next ≤ 5 + t + s + s + t)) → IfOk r (λ next. Falls us l (next_weight next) k (2 + t + s))
 turn_falls us l k t s (Ok next) h =
     let w = h.1 in
     spent_four us l (next_weight next) (2 + t + s) k h.0 (omega arith)
 turn_falls us l k t s (Err x) h = tt
 
 pub spent_turn : {E : Type 0} (us : List Routine) (l k b t s : ℕ) (r : Result Next E) → b ≡ 2 + t + s
-    → IfOk r (λ next. (l + 1 ≡ k) × (next_weight next ≡ 5 + t + s + s + t)) → IfOk r (λ next. Falls us l (next_weight next) k b)
+    → IfOk r (λ next. (l + 1 ≡ k) × (next_weight next ≤ 5 + t + s + s + t)) → IfOk r (λ next. Falls us l (next_weight next) k b)
 spent_turn us l k b t s r e h = falls_so us l k b r (2 + t + s) e (turn_falls us l k t s r h)
 
 -- a step was spent for a call

@@ -62,7 +62,9 @@ pub fn begin<'a, L: Lines>(
 {
     let Work(place, job) = work;
     match job {
-        Job::Perform(suite, at) => match perform_at(alloc, scope, place, suite, at, run, lines) {
+        Job::Perform(suite, at) => match perform_at(
+            alloc, scope, place, suite, at, run, targets, lines,
+        ) {
             Ok(next) => on_its_line(go_ahead(alloc, scope, next, run, targets)),
             Err(stopped) => Err(stopped),
         },
@@ -149,7 +151,9 @@ fn begin_job<'a>(
         Job::Find(high, e) => Ok(find(alloc, place, high, e)),
         Job::FindRow(high, es, found) => find_row(alloc, place, high, es, found),
         Job::Choose(all, at) => choose(scope, place, all, at),
-        Job::Turn(turns, test, suite) => turn(scope, place, turns, test, suite, run, targets),
+        Job::Turn(turns, test, suite) => {
+            turn(alloc, scope, place, turns, test, suite, run, targets)
+        }
         Job::TurnsOver(bound, suite, train) => {
             let train = train.into_inner();
             turns_over(alloc, scope, place, bound, suite, train, run, targets)
@@ -172,10 +176,11 @@ pub fn begin_item<'a, L: Lines>(
     place: Place,
     action: &'a Action,
     run: &mut Run,
+    targets: &mut Targets,
     lines: &mut L,
 ) -> Result<Next<'a>, Stopped>
     ensures may_be { (input : L.Input) → L.may_be input lines.new → L.may_be input lines.old }
-    ensures leads { (units : List Routine) (targets : Store) (input : L.Input) → L.may_be input lines.new → Starts units (scope_of scope.now) result (state_with run.new targets (L.unread input lines.old)) (state_with run.new targets (L.unread input lines.new)) (as_flow ((meaning units place.levels).acts (at (scope_of scope.now) place.line) action.now (state_with run.old targets (L.unread input lines.old)))) }
+    ensures leads { (units : List Routine) (input : L.Input) → L.may_be input lines.new → Starts units (scope_of scope.now) result (state_with run.new targets.new (L.unread input lines.old)) (state_with run.new targets.new (L.unread input lines.new)) (as_flow ((meaning units place.levels).acts (at (scope_of scope.now) place.line) action.now (state_with run.old targets.old (L.unread input lines.old)))) }
     ensures scope { IfOk result (λ next. below_next (scope_of scope.now) next ≡ scope_of scope.now) }
     ensures left { (run.new.left ≤ run.old.left) × (run.old.left ≤ run.new.left + 1) }
     ensures falls { IfOk result (λ next. (run.new.left + 1 ≡ run.old.left) × (next_weight next < action_size action.now)) }
@@ -184,10 +189,10 @@ pub fn begin_item<'a, L: Lines>(
     ensures long { IsErrOf result Stopped.Long → L.taken lines.new ≡ L.bound lines.new }
     ensures input { IsErrOf result Stopped.Input → RoseByOne (L.faults lines.old) (L.faults lines.new) }
     ensures faultless { ¬ (IsErrOf result Stopped.Input) → L.faults lines.new ≡ L.faults lines.old }
-    ensures calls { Called L.reads_on (λ l. (l ≡ lines.old) × ((units : List Routine) (targets : Store) → wants_line (as_flow ((meaning units place.levels).acts (at (scope_of scope.now) place.line) action.now (state_with run.old targets none_yet))) ≡ true)) lines.old lines.new }
-    ensures failed { (IsErrOf result Stopped.Long ⊎ IsErrOf result Stopped.Input) → Failed L.failed (λ l. (l ≡ lines.old) × ((units : List Routine) (targets : Store) → wants_line (as_flow ((meaning units place.levels).acts (at (scope_of scope.now) place.line) action.now (state_with run.old targets none_yet))) ≡ true)) lines.new }
+    ensures calls { Called L.reads_on (λ l. (l ≡ lines.old) × ((units : List Routine) (held : Store) → wants_line (as_flow ((meaning units place.levels).acts (at (scope_of scope.now) place.line) action.now (state_with run.old held none_yet))) ≡ true)) lines.old lines.new }
+    ensures failed { (IsErrOf result Stopped.Long ⊎ IsErrOf result Stopped.Input) → Failed L.failed (λ l. (l ≡ lines.old) × ((units : List Routine) (held : Store) → wants_line (as_flow ((meaning units place.levels).acts (at (scope_of scope.now) place.line) action.now (state_with run.old held none_yet))) ≡ true)) lines.new }
 {
-    perform(alloc, scope, place, action, run, lines)
+    perform(alloc, scope, place, action, run, targets, lines)
 }
 
 /// How what waits goes on with a reply, and then with one more that is found at once, and with the beginning of a suite. A reply of another

@@ -6,28 +6,17 @@ use Rattle.abc_tree.specs.declared.commands.Unit.{Unit as Routine}
 use Rattle.abc_value.specs.Tree.{Tree}
 use Rattle.abc_meaning.specs.State.{State, Got, gives, Run, after}
 use Rattle.abc_meaning.specs.Here.{Scope}
-use Rattle.abc_state.specs.Agrees.{Halts}
 use Rattle.abc_state.specs.declared.halt.Halt.{Halt}
-use Rattle.abc_state.specs.declared.halt.Halt.TheVariants.{Fault, Wrong}
 use Rattle.abc_pending.specs.declared.pending.Next.{Next}
-use Rattle.abc_pending.specs.Pending.{Answer, val}
-use Rattle.abc_pending.specs.Leads.{as_val, as_truth}
+use Rattle.abc_pending.specs.Leads.{as_truth}
 use Rattle.abc_pending.specs.Views.{Begins, next_weight}
 use Rattle.abc_pending.specs.Weights.{expr_size, links_size}
 use Rattle.abc_pending.proofs.Falling.{lighter}
-
--- a stop is one, whatever would follow
-pub wait_stops : (line : ℕ) (h : Halt) (s : State) (g : Got Tree) (go : Answer → Run Answer) → Halts line h s g → Halts line h s (after (as_val g) go)
-wait_stops line (Fault f) s g go k = λ n. ap (λ x. after (as_val x) go) (k n)
-wait_stops line Wrong s g go k = ap (λ x. after (as_val x) go) k
 
 -- what goes on with the value
 module _ (units : List Routine) (scope : Scope) (line : ℕ) (r : Result Next Halt) (s : State) (g : Got Tree) (v : Tree) where
   pub truth_goes : (go : Tree → Run Bool) → g ≡ gives v s → Begins units scope line r s (as_truth (go v s)) → Begins units scope line r s (as_truth (after g go))
   truth_goes go e b = subst (λ x. Begins units scope line r s (as_truth (after x go))) (sym e) b
-
-  pub wait_goes : (go : Answer → Run Answer) → g ≡ gives v s → Begins units scope line r s (go (val v) s) → Begins units scope line r s (after (as_val g) go)
-  wait_goes go e b = subst (λ x. Begins units scope line r s (after (as_val x) go)) (sym e) b
 
 -- the rest of a chain is lighter by its first relation
 pub chain_lighter : {E : Type 0} (r : Result Next E) (all : List Link) (link : Link) → 1 ≤ length all → link ≡ slice_index_or all 0 link

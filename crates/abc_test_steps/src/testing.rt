@@ -11,7 +11,7 @@ ghost use Rattle.abc_meaning.specs.Meaning.{meaning};
 ghost use Rattle.abc_state.specs.Views.{at, scope_of, state_of};
 ghost use Rattle.abc_acts.specs.Views.{held_of};
 ghost use Rattle.abc_pending.specs.Leads.{as_val, as_truth, resume, resume_test, resume_truth, doing};
-ghost use Rattle.abc_pending.specs.Pending.{chain_next, compare, if_test, in_test, quantify, select_test, train, try, while_test};
+ghost use Rattle.abc_pending.specs.Pending.{chain_next, compare, in_test, quantify, select_test, train, try};
 ghost use Rattle.abc_pending.specs.Views.{Begins, begin_of, below_next, next_weight, test_frame, truth_frame};
 ghost use Rattle.abc_pending.specs.Weights.{Falls, alternatives_size, expr_size, links_size, suite_size, test_size, test_weight, truth_weight};
 
@@ -19,8 +19,8 @@ use abc_acts::{Held, Train, bind, give_back, keep_names};
 use abc_frames::Targets;
 use abc_num::{Boxed, Items};
 use abc_pending::{
-    ForFlow, ForTest, ForTruth, Job, Next, Place, Purpose, Reply, Waiting, Wanted, Work,
-    value_at_once,
+    ForTest, ForTruth, Job, Next, Place, Purpose, Reply, Waiting, Wanted, Work, if_tested,
+    value_at_once, while_tested,
 };
 use abc_state::{Exit, Halt, Run, Scope, compared};
 use abc_tree::{Alternatives, Bound, Expr, Link, Op, Quantifier, Suite, Test};
@@ -287,19 +287,6 @@ pub fn take_truth<'a>(place: Place, frame: ForTruth<'a>, truth: bool) -> Result<
     }
 }
 
-/// The suite of IF, where its test holds.
-fn if_tested<'a>(place: Place, suite: &'a Suite, truth: bool) -> Next<'a>
-    ensures leads { (units : List Routine) (scope : Names) (s : State) → resume_truth units (meaning units place.levels) (at scope place.line) (if_test suite.now) truth s ≡ begin_of units scope result s }
-    ensures scope { (scope : Names) → below_next scope result ≡ scope }
-    ensures falls { next_weight result < 2 + suite_size suite.now }
-{
-    if truth {
-        Next::Go(Work(place, Job::PerformAll(suite, 0)))
-    } else {
-        Next::Give(Reply::Went(Exit::GoesOn))
-    }
-}
-
 /// The suite of an alternative, where its test holds, or else the alternatives behind it.
 fn alternative_tested<'a>(
     place: Place,
@@ -316,28 +303,6 @@ fn alternative_tested<'a>(
         Next::Go(Work(place, Job::PerformAll(suite, 0)))
     } else {
         Next::Go(Work(place, Job::Choose(others, from)))
-    }
-}
-
-/// The suite of WHILE, where its test holds, with the turns behind it.
-fn while_tested<'a>(
-    place: Place,
-    turns: u64,
-    test: &'a Test,
-    suite: &'a Suite,
-    truth: bool,
-) -> Next<'a>
-    ensures leads { (units : List Routine) (scope : Names) (s : State) → resume_truth units (meaning units place.levels) (at scope place.line) (while_test turns test.now suite.now) truth s ≡ begin_of units scope result s }
-    ensures scope { (scope : Names) → below_next scope result ≡ scope }
-    ensures falls { next_weight result < 5 + test_size test.now + suite_size suite.now + suite_size suite.now }
-{
-    if truth {
-        Next::Wait(
-            Waiting::Flow(place, ForFlow::WhileBody(turns, test, suite)),
-            Work(place, Job::PerformAll(suite, 0)),
-        )
-    } else {
-        Next::Give(Reply::Went(Exit::GoesOn))
     }
 }
 
@@ -372,7 +337,7 @@ pub fn compare<'a>(
 }
 
 /// A relation of a chain, from its right operand on.
-#[tactic(auto, using(crate::proofs::AtOnce::wait_stops, crate::proofs::AtOnce::wait_goes, abc_pending::proofs::Falling::lighter))]
+#[tactic(auto, using(abc_pending::proofs::GoingOn::wait_stops, abc_pending::proofs::GoingOn::wait_goes, abc_pending::proofs::Falling::lighter))]
 fn see_link<'a>(
     alloc: Global,
     scope: &Scope<'a>,

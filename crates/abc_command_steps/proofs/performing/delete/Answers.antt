@@ -1,6 +1,4 @@
 -- Answers for delete.
-use Rattle.std.proofs.Common.{◌≡◌, ◌∷◌, [], ◌<◌, ◌≤◌, ◌+◌, Bool, ℕ, ◌-◌, ◌*◌, ◌/◌, ◌%◌, true, false, ◌++◌}
-use Rattle.abc_pending.specs.declared.pending.Waiting.TheVariants as waiting
 use Rattle.abc_command_steps.proofs.performing.delete.Goals as goal
 use Rattle.abc_command_steps.proofs.Acting.{delete_later}
 

@@ -21,11 +21,11 @@ returns-in-Ok-clause-falls g c = λ units.
     c.go_on.ensures.weighs (spent_falls units (next_weight c.in-Ok.next) c.begin_item.new.run.left (action_size c.args.action.now) c.args.run.now.left c.in-Ok.ensures.falls.0 c.in-Ok.ensures.falls.1)
 
 pub returns-in-Err-Long-clause-leads : goal.returns-in-Err-Long-clause-leads
-returns-in-Err-Long-clause-leads g c = λ units targets input may.
+returns-in-Err-Long-clause-leads g c = λ units input may.
     wanted_of units (scope_of c.args.scope.now) (scope_of c.args.scope.now) (map frame_of c.args.frames.now) c.in-Err-Long.field-0
-    (state_with c.begin_item.new.run targets (g.L.Lines.unread input c.args.lines.now)) (state_with c.begin_item.new.run targets (g.L.Lines.unread input c.begin_item.new.lines))
-    (given units (scope_of c.args.scope.now) (Item c.args.place c.args.action) (state_with c.args.run.now targets (g.L.Lines.unread input c.args.lines.now)))
-    c.in-Err-Long.field-0-is (c.in-Err-Long.ensures.leads units targets input may)
+    (state_with c.begin_item.new.run c.begin_item.new.targets (g.L.Lines.unread input c.args.lines.now)) (state_with c.begin_item.new.run c.begin_item.new.targets (g.L.Lines.unread input c.begin_item.new.lines))
+    (given units (scope_of c.args.scope.now) (Item c.args.place c.args.action) (state_with c.args.run.now c.args.targets.now (g.L.Lines.unread input c.args.lines.now)))
+    c.in-Err-Long.field-0-is (c.in-Err-Long.ensures.leads units input may)
 
 pub returns-in-Ok-clause-calls : goal.returns-in-Ok-clause-calls
 returns-in-Ok-clause-calls g c =
