@@ -63,6 +63,7 @@ fn see_name<'a>(
         )),
         None => {
             let actual = name_actual(alloc, scope, run, targets, i.0)?;
+            let actual = Boxed::new(alloc, actual)?;
             Ok(Next::Give(Reply::Actual(actual)))
         }
     }
@@ -183,7 +184,8 @@ pub fn see_fields<'a>(
         [] => {
             let value = composed(alloc, values)?;
             let spot = together(alloc, spots)?;
-            Ok(Next::Give(Reply::Actual(located(value, spot))))
+            let actual = Boxed::new(alloc, located(value, spot))?;
+            Ok(Next::Give(Reply::Actual(actual)))
         }
         [first, others @ ..] => Ok(Next::Wait(
             Waiting::Actual(place, ForActual::ActualField(others, values, spots)),

@@ -17,7 +17,7 @@ ghost use Rattle.abc_pending.specs.Weights.{Falls, IsWithin, most_growth, suite_
 use abc_acts::{Entry, command_entry, formal_names, leave, reported, returned};
 use abc_frames::Targets;
 use abc_num::{Boxed, Items, Text};
-use abc_pending::{ForFlow, Job, Leaves, Next, Place, Reply, Waiting, Wanted, Work};
+use abc_pending::{Caller, ForFlow, Job, Leaves, Next, Place, Reply, Waiting, Wanted, Work};
 use abc_state::{Actual, Exit, Halt, Run, Scope, plain_value};
 use abc_tree::{Refinement, Template, Unit, Units};
 use abc_value::Value;
@@ -69,13 +69,18 @@ fn enter_unit<'a>(
     let kept = targets.keep()?;
     let inner = Scope::of_unit(alloc, unit)?;
     let formals = Items::new(alloc);
-    let caller = abc_acts::enter(run, Entry { names, formals });
-    let outer = Boxed::new(alloc, std::mem::replace(scope, inner))?;
+    let entry = abc_acts::enter(run, Entry { names, formals });
+    let outer = std::mem::replace(scope, inner);
+    let caller = Boxed::new(
+        alloc,
+        Caller {
+            how: Leaves::With(wanted, kept),
+            entry,
+            scope: outer,
+        },
+    )?;
     Ok(Next::Wait(
-        Waiting::Flow(
-            place,
-            ForFlow::CallEnd(Leaves::With(wanted, kept), caller, outer),
-        ),
+        Waiting::Flow(place, ForFlow::CallEnd(caller)),
         Work(place, Job::PerformAll(&unit.body, 0)),
     ))
 }
@@ -120,10 +125,18 @@ fn enter_command_unit<'a>(
     run.spend()?;
     let entry = command_entry(alloc, unit, actuals)?;
     let inner = Scope::of_unit(alloc, unit)?;
-    let caller = abc_acts::enter(run, entry);
-    let outer = Boxed::new(alloc, std::mem::replace(scope, inner))?;
+    let entry = abc_acts::enter(run, entry);
+    let outer = std::mem::replace(scope, inner);
+    let caller = Boxed::new(
+        alloc,
+        Caller {
+            how: Leaves::Formals,
+            entry,
+            scope: outer,
+        },
+    )?;
     Ok(Next::Wait(
-        Waiting::Flow(place, ForFlow::CallEnd(Leaves::Formals, caller, outer)),
+        Waiting::Flow(place, ForFlow::CallEnd(caller)),
         Work(place, Job::PerformAll(&unit.body, 0)),
     ))
 }

@@ -284,11 +284,15 @@ pub fn take_action<'a>(
     ensures falls { IfOk result (λ next. next_weight next < action_weight (action_frame frame.entry)) }
 {
     match frame {
-        ForAction::PlainActual => Ok(Next::Give(Reply::Actual(located(value, None)))),
+        ForAction::PlainActual => {
+            let actual = Boxed::new(alloc, located(value, None))?;
+            Ok(Next::Give(Reply::Actual(actual)))
+        }
         ForAction::PartActual(table, spot) => {
             let part = selected(alloc, table.get(), &value)?;
             let spot = stepped(spot, value)?;
-            Ok(Next::Give(Reply::Actual(located(part, spot))))
+            let actual = Boxed::new(alloc, located(part, spot))?;
+            Ok(Next::Give(Reply::Actual(actual)))
         }
         ForAction::SpotKey(spot) => {
             let spot = stepped(spot, value)?;

@@ -107,7 +107,7 @@ call_end (With wanted targets) names formals scope = unit_end wanted targets nam
 call_end Formals names formals scope = command_end names formals scope
 
 abbrev pub flow_frame : ForFlow → Flow-Frame
-flow_frame (CallEnd how caller scope) = call_end how caller.names (map formal_of caller.formals) (scope_of scope)
+flow_frame (CallEnd c) = call_end c.how c.entry.names (map formal_of c.entry.formals) (scope_of c.scope)
 flow_frame (RefinementEnd wanted targets names) = refinement_end wanted targets names
 flow_frame Refined = refined
 flow_frame (WhileBody k t body) = while_body k t.now body.now

@@ -13,8 +13,8 @@ mod tested;
 pub use addressed::spot_at_once;
 pub use at_once::{HEIGHT_AT_ONCE, truth_at_once, value_at_once};
 pub use pending::{
-    Doing, ForAction, ForActual, ForExpression, ForFlow, ForSpot, ForTest, ForTruth, Job, Leaves,
-    Next, Purpose, Reply, Waiting, Work,
+    Caller, Doing, ForAction, ForActual, ForExpression, ForFlow, ForSpot, ForTest, ForTruth, Job,
+    Leaves, Next, Purpose, Reply, Waiting, Work,
 };
 pub use place::{Changes, Place, Wanted};
 pub use replies::{actual_in, exit_in, spot_in, truth_in, value_in};

@@ -16,7 +16,7 @@ pub enum Reply {
     Val(Value),
     Truth(bool),
     Went(Exit),
-    Actual(Actual),
+    Actual(Boxed<Actual>),
     /// The address that an expression is, if it is one.
     Spot(Option<Spot>),
 }
@@ -91,10 +91,18 @@ pub enum Leaves {
     Formals,
 }
 
+/// How a call ends, and what the caller had.
+#[derive(Drop)]
+pub struct Caller<'a> {
+    pub how: Leaves,
+    pub entry: Entry,
+    pub scope: Scope<'a>,
+}
+
 /// What waits for the end of a suite. The ends of calls hold what the caller had.
 #[derive(Drop)]
 pub enum ForFlow<'a> {
-    CallEnd(Leaves, Entry, Boxed<Scope<'a>>),
+    CallEnd(Boxed<Caller<'a>>),
     RefinementEnd(Wanted, Kept, CallNames),
     Refined,
     WhileBody(u64, &'a Test, &'a Suite),

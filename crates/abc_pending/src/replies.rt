@@ -60,7 +60,7 @@ pub fn actual_in(reply: Reply) -> Option<Actual>
         Reply::Val(_value) => None,
         Reply::Truth(_) => None,
         Reply::Went(_exit) => None,
-        Reply::Actual(actual) => Some(actual),
+        Reply::Actual(actual) => Some(actual.into_inner()),
         Reply::Spot(_spot) => None,
     }
 }

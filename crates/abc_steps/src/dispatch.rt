@@ -27,8 +27,8 @@ use abc_expression_steps::{fill, fill_table, see, see_row, spell, take_value};
 use abc_frames::Targets;
 use abc_outside::Lines;
 use abc_pending::{
-    ForFlow, Halted, Job, Next, Place, Reply, Stopped, Waiting, Work, actual_in, exit_in, spot_in,
-    truth_in, value_in,
+    Caller, ForFlow, Halted, Job, Next, Place, Reply, Stopped, Waiting, Work, actual_in, exit_in,
+    spot_in, truth_in, value_in,
 };
 use abc_state::{Exit, Halt, Run, Scope};
 use abc_test_steps::{compare, quantify, take_test, take_truth, try_test};
@@ -304,9 +304,14 @@ fn take_exit<'a>(
     ensures falls { IfOk result (λ next. next_weight next < flow_weight (flow_frame frame.entry)) }
 {
     match frame {
-        ForFlow::CallEnd(how, caller, outer) => {
-            let _ended = std::mem::replace(scope, outer.into_inner());
-            end_call(alloc, scope, how, caller, exit, run, targets)
+        ForFlow::CallEnd(caller) => {
+            let Caller {
+                how,
+                entry,
+                scope: outer,
+            } = caller.into_inner();
+            let _ended = std::mem::replace(scope, outer);
+            end_call(alloc, scope, how, entry, exit, run, targets)
         }
         ForFlow::RefinementEnd(wanted, kept, names) => {
             targets.back(kept);

@@ -7,13 +7,13 @@ use Rattle.abc_call_steps.proofs.calls.enter_command_unit.Goals as goal
 
 pub returns-clause-leads : goal.returns-clause-leads
 returns-clause-leads c = λ units targets lines ended.
-    command_unit_begins units c.args.place (scope_of c.args.scope.now) (scope_of c.in_ok-outer.outer) (scope_of c.replace.new.dest) c.args.unit.now (actuals_of c.args.actuals.items)
-    (state_of c.args.run.now targets lines ended) (state_of c.spend.new.self targets lines ended) (state_of c.enter-caller.new.run targets lines ended) (entry_view c.in_ok-entry.entry)
-    c.enter-caller.result.names (map formal_of c.enter-caller.result.formals)
+    rw c.in_ok-caller.ensures (command_unit_begins units c.args.place (scope_of c.args.scope.now) (scope_of c.replace-outer.result) (scope_of c.replace-outer.new.dest) c.args.unit.now (actuals_of c.args.actuals.items)
+    (state_of c.args.run.now targets lines ended) (state_of c.spend.new.self targets lines ended) (state_of c.enter-entry.new.run targets lines ended) (entry_view c.in_ok-entry.entry)
+    c.enter-entry.result.names (map formal_of c.enter-entry.result.formals)
     (c.in_ok-spend.ensures.agrees targets lines ended (at (scope_of c.args.scope.now) c.args.place.line))
     c.in_ok-entry.ensures
-    (ap scope_of c.replace.ensures.after ∙ c.in_ok-inner.ensures)
-    (ap scope_of (c.in_ok-outer.ensures ∙ c.replace.ensures.value))
-    c.enter-caller.ensures.names
-    (ap (map formal_of) c.enter-caller.ensures.formals)
-    (c.enter-caller.ensures.state targets lines ended)
+    (ap scope_of c.replace-outer.ensures.after ∙ c.in_ok-inner.ensures)
+    (ap scope_of c.replace-outer.ensures.value)
+    c.enter-entry.ensures.names
+    (ap (map formal_of) c.enter-entry.ensures.formals)
+    (c.enter-entry.ensures.state targets lines ended))
