@@ -3,10 +3,11 @@ use Rattle.std.proofs.Common.{◌≡◌, ◌≤◌, ◌<◌, ℕ, Bool, true, fa
 use Rattle.std.specs.Prelude.{nat_lt, if◌then◌else◌}
 use Rattle.std.proofs.lemmas.Bool.{lt-ltb, ltb-true}
 use Rattle.abc_outline.specs.declared.edges.Edges.{Edges}
+use Rattle.abc_outline.specs.declared.edges.Role.{Role}
 use Rattle.abc_outline.specs.declared.edges.Role.TheVariants as role
 use Rattle.abc_outline.specs.declared.edges.Setting.{Setting}
 use Rattle.abc_outline.specs.declared.edges.Standing.{Standing}
-use Rattle.abc_outline.specs.Outline.{left, chain, around, is_chosen, opens_select, role_of, first_role, may_be_heading, standing}
+use Rattle.abc_outline.specs.Outline.{left, chain, around, is_chosen, is_refinement, opens_select, role_of, round_by, first_role, may_be_heading, standing}
 use Rattle.abc_faults.specs.Causes.{is_alternative}
 
 pub not_lt : (n m : ℕ) → m ≤ n → nat_lt n m ≡ false
@@ -30,14 +31,21 @@ left_left r n le (line ∷ lines) = step (nat_lt line.edges.indent n) (nat_lt li
       let y : nat_lt line.edges.indent n ≡ true = lt-ltb line.edges.indent n (omega arith) in absurd cc
   step false false en er ih = ih
 
--- a line changes nothing round lines that aren't deeper, and stands next round deeper ones
+pub plain_round : (r : Role) (lines : List Standing) → is_refinement r ≡ false → round_by r lines ≡ lines
+plain_round role.RefinementHeading lines e = absurd cc
+plain_round role.UnitHeading lines e = refl
+plain_round role.Alternative lines e = refl
+plain_round role.Command lines e = refl
+
+-- a line that is no refinement heading changes nothing round lines that aren't deeper; each stands next round deeper ones
 module _ (setting : Setting) (line : Edges) (above : List Edges) where
   abbrev rest : List Standing
-  rest = left line.indent (chain setting above)
+  rest = round_by (role_of setting above line) (left line.indent (chain setting above))
 
-  pub around_same : (r : ℕ) → r ≤ line.indent → around setting r (line ∷ above) ≡ around setting r above
-  around_same r le =
+  pub around_same : is_refinement (role_of setting above line) ≡ false → (r : ℕ) → r ≤ line.indent → around setting r (line ∷ above) ≡ around setting r above
+  around_same plain r le =
       ap (λ t. cond t (standing line (role_of setting above line) rest) (left r rest)) (not_lt line.indent r le)
+      ∙ ap (left r) (plain_round (role_of setting above line) (left line.indent (chain setting above)) plain)
       ∙ left_left r line.indent le (chain setting above)
 
   pub around_first : (r : ℕ) → line.indent < r → around setting r (line ∷ above) ≡ standing line (role_of setting above line) rest

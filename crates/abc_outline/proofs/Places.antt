@@ -10,7 +10,7 @@ use Rattle.abc_outline.specs.declared.edges.Setting.{Setting}
 use Rattle.abc_outline.specs.declared.edges.Standing.{Standing}
 use Rattle.abc_outline.specs.declared.edges.Place.{Place}
 use Rattle.abc_outline.specs.declared.outlining.Outline.{Outline}
-use Rattle.abc_outline.specs.Outline.{around, begins_at, chain, last, left, next_number, not_deeper, opens_select, outline_of, place_of, role_by, role_of, section_by, section_of, standing, stands_at, suites, suites_below}
+use Rattle.abc_outline.specs.Outline.{around, begins_at, chain, last, left, next_number, not_deeper, opens_select, outline_of, place_of, role_by, role_of, round_by, section_by, section_of, standing, stands_at, suites, suites_at, suites_below}
 
 -- ---- lines that are left in two steps
 
@@ -45,6 +45,13 @@ unfolding AreFew
 few_more m [] f = tt
 few_more m (line ∷ around) f = (omega (arith, f.0), few_more m around f.1)
 
+few_round : (m : ℕ) (r : Role) (around : List Standing) → AreFew m around → AreFew m (round_by r around)
+unfolding AreFew
+few_round m role.RefinementHeading around f = tt
+few_round m role.UnitHeading around f = f
+few_round m role.Alternative around f = f
+few_round m role.Command around f = f
+
 few_suites : (m : ℕ) (around : List Standing) → AreFew m around → suites around ≤ m
 unfolding AreFew
 few_suites m [] f = omega arith
@@ -64,13 +71,15 @@ few_chain : (setting : Setting) (above : List Edges) → AreFew (length above) (
 unfolding AreFew
 few_chain setting [] = tt
 few_chain setting (line ∷ above) =
-    let f = few_left (length above) line.indent (chain setting above) (few_chain setting above) in
-    let s = few_suites (length above) (left line.indent (chain setting above)) f in
-    let o = one_more line (role_of setting above line) (suites (left line.indent (chain setting above))) in
-    (omega (arith, s, o), few_more (length above) (left line.indent (chain setting above)) f)
+    let round = round_by (role_of setting above line) (left line.indent (chain setting above)) in
+    let f = few_round (length above) (role_of setting above line) (left line.indent (chain setting above)) (few_left (length above) line.indent (chain setting above) (few_chain setting above)) in
+    let s = few_suites (length above) round f in
+    let o = one_more line (role_of setting above line) (suites round) in
+    (omega (arith, s, o), few_more (length above) round f)
 
-pub few_suites_around : (setting : Setting) (n : ℕ) (above : List Edges) → suites (left n (chain setting above)) ≤ length above
-few_suites_around setting n above = few_suites (length above) (left n (chain setting above)) (few_left (length above) n (chain setting above) (few_chain setting above))
+pub few_suites_round : (setting : Setting) (r : Role) (n : ℕ) (above : List Edges) → suites (round_by r (left n (chain setting above))) ≤ length above
+few_suites_round setting r n above =
+    few_suites (length above) (round_by r (left n (chain setting above))) (few_round (length above) r (left n (chain setting above)) (few_left (length above) n (chain setting above) (few_chain setting above)))
 
 one_section : (r : Role) (line : Edges) (s : Option Section) → next_number (section_by r line s) ≤ next_number s + 1
 one_section role.RefinementHeading line s = omega arith
@@ -87,9 +96,9 @@ few_sections setting (line ∷ above) =
 
 -- ---- the next place, by its parts
 
-module _ (setting : Setting) (above : List Edges) (line : Edges) (old : Outline) (e : old ≡ outline_of setting above) (mid round : List Standing)
+module _ (setting : Setting) (above : List Edges) (line : Edges) (old : Outline) (e : old ≡ outline_of setting above) (mid round kept : List Standing)
     (level : Bool) (count : ℕ) (r : Role) (section : Option Section)
-    (m : mid ≡ not_deeper line.indent old.around) (a : round ≡ left line.indent mid) (l : level ≡ begins_at line.indent mid) (c : count ≡ suites round)
+    (m : mid ≡ not_deeper line.indent old.around) (a : round ≡ left line.indent mid) (l : level ≡ begins_at line.indent mid) (k : kept ≡ round_by r round) (c : count ≡ suites kept)
     (is : r ≡ role_by old.setting old.before round line) (s : section ≡ section_by r line old.section) where
   mid_is : mid ≡ not_deeper line.indent (chain setting above)
   mid_is = m ∙ ap (λ (o : Outline). not_deeper line.indent o.around) e
@@ -100,6 +109,9 @@ module _ (setting : Setting) (above : List Edges) (line : Edges) (old : Outline)
   role_is : r ≡ role_of setting above line
   role_is = is ∙ ap (λ (o : Outline). role_by o.setting o.before round line) e ∙ ap (λ xs. role_by setting (last above) xs line) round_is
 
+  kept_is : kept ≡ round_by (role_of setting above line) (left line.indent (chain setting above))
+  kept_is = k ∙ ap (λ q. round_by q round) role_is ∙ ap (round_by (role_of setting above line)) round_is
+
   section_is : section ≡ section_of setting (line ∷ above)
   section_is = s ∙ ap (λ (o : Outline). section_by r line o.section) e ∙ ap (λ q. section_by q line (section_of setting above)) role_is
 
@@ -107,11 +119,11 @@ module _ (setting : Setting) (above : List Edges) (line : Edges) (old : Outline)
   next_place =
       ap (λ (o : Outline). record { number = o.number + 1; before = o.before; level = level; suites = count; role = r; section = section }) e
       ∙ ap (λ b. record { number = length above + 1; before = last above; level = b; suites = count; role = r; section = section }) (l ∙ ap (begins_at line.indent) mid_is)
-      ∙ ap (λ n. record { number = length above + 1; before = last above; level = stands_at line.indent (chain setting above); suites = n; role = r; section = section }) (c ∙ ap suites round_is)
-      ∙ ap (λ q. record { number = length above + 1; before = last above; level = stands_at line.indent (chain setting above); suites = suites (around setting line.indent above); role = q; section = section }) role_is
-      ∙ ap (λ q. record { number = length above + 1; before = last above; level = stands_at line.indent (chain setting above); suites = suites (around setting line.indent above); role = role_of setting above line; section = q }) section_is
+      ∙ ap (λ n. record { number = length above + 1; before = last above; level = stands_at line.indent (chain setting above); suites = n; role = r; section = section }) (c ∙ ap suites kept_is)
+      ∙ ap (λ q. record { number = length above + 1; before = last above; level = stands_at line.indent (chain setting above); suites = suites_at setting above line; role = q; section = section }) role_is
+      ∙ ap (λ q. record { number = length above + 1; before = last above; level = stands_at line.indent (chain setting above); suites = suites_at setting above line; role = role_of setting above line; section = q }) section_is
 
-  pub next_outline : (new : List Standing) (below : ℕ) → below ≡ suites_below line r count → new ≡ record { edges = line; role = r; suites = below } ∷ round
+  pub next_outline : (new : List Standing) (below : ℕ) → below ≡ suites_below line r count → new ≡ record { edges = line; role = r; suites = below } ∷ kept
       → ◌≡◌ {A = Outline} (record { setting = old.setting; number = old.number + 1; before = Some line; section = section; around = new }) (outline_of setting (line ∷ above))
   next_outline new below b n =
       ap (λ (o : Outline). record { setting = o.setting; number = o.number + 1; before = Some line; section = section; around = new }) e
@@ -124,6 +136,6 @@ module _ (setting : Setting) (above : List Edges) (line : Edges) (old : Outline)
 
       chain_is : new ≡ chain setting (line ∷ above)
       chain_is =
-          n ∙ ap (λ k. record { edges = line; role = r; suites = k } ∷ round) (b ∙ ap (suites_below line r) c)
-          ∙ ap (λ q. record { edges = line; role = q; suites = suites_below line q (suites round) } ∷ round) role_is
-          ∙ ap (λ xs. standing line (role_of setting above line) xs) round_is
+          n ∙ ap (λ k. record { edges = line; role = r; suites = k } ∷ kept) (b ∙ ap (suites_below line r) c)
+          ∙ ap (λ q. record { edges = line; role = q; suites = suites_below line q (suites kept) } ∷ kept) role_is
+          ∙ ap (λ xs. standing line (role_of setting above line) xs) kept_is

@@ -62,9 +62,9 @@ a_unit : roles (unit 2) [] (how_to ∷ select 2 ∷ heading 4 ∷ opening 4 ∷ 
     ≡ (0, role.UnitHeading) ∷ (1, role.Command) ∷ (1, role.Alternative) ∷ (1, role.Alternative) ∷ (2, role.Command) ∷ (0, role.RefinementHeading) ∷ (1, role.Command) ∷ (2, role.Command) ∷ []
 a_unit = refl
 
--- the heading of a second refinement at the body's indentation, which is not deeper than the line before
+-- the heading of a second refinement at the body's indentation, which is not deeper than the line before: no suite is open at it
 two_refinements : roles (unit 2) [] (how_to ∷ plain 2 ∷ heading 2 ∷ plain 4 ∷ heading 2 ∷ plain 4 ∷ [])
-    ≡ (0, role.UnitHeading) ∷ (1, role.Command) ∷ (1, role.RefinementHeading) ∷ (1, role.Command) ∷ (1, role.RefinementHeading) ∷ (1, role.Command) ∷ []
+    ≡ (0, role.UnitHeading) ∷ (1, role.Command) ∷ (0, role.RefinementHeading) ∷ (1, role.Command) ∷ (0, role.RefinementHeading) ∷ (1, role.Command) ∷ []
 two_refinements = refl
 
 -- in an immediate item no line is a heading, and line 1 is a command
@@ -89,6 +89,11 @@ select_alone = refl
 -- between two indentations of the lines round it, and at one of them
 level_between : ((place_of (unit 2) (plain 8 ∷ opening 4 ∷ how_to ∷ []) (plain 6)).level ≡ false) × ((place_of (unit 2) (plain 8 ∷ opening 4 ∷ how_to ∷ []) (plain 4)).level ≡ true)
 level_between = (refl, refl)
+
+-- what the suites of the refinement before stand at is no level behind a heading
+level_behind_heading : ((place_of (unit 4) (heading 4 ∷ plain 4 ∷ opening 2 ∷ heading 0 ∷ plain 4 ∷ how_to ∷ []) (plain 2)).level ≡ false)
+    × ((place_of (unit 4) (plain 4 ∷ opening 2 ∷ heading 0 ∷ plain 4 ∷ how_to ∷ []) (plain 2)).level ≡ true)
+level_behind_heading = (refl, refl)
 
 sections : (place_of (unit 2) (plain 4 ∷ heading 2 ∷ plain 2 ∷ how_to ∷ []) (heading 0)).section ≡ Some (record { number = 1; indent = 0 })
 sections = refl

@@ -103,6 +103,13 @@ suites_below line role.UnitHeading open_suites = open_suites + 1
 suites_below line role.Alternative open_suites = open_suites + 1
 suites_below line role.Command open_suites = if opens_select line role.Command then open_suites else open_suites + 1
 
+-- no line stands round a refinement heading, since a refinement stands in no suite
+abbrev pub round_by : Role → List Standing → List Standing
+round_by role.RefinementHeading around = []
+round_by role.UnitHeading around = around
+round_by role.Alternative around = around
+round_by role.Command around = around
+
 -- a line in front of those round it
 abbrev pub standing : Edges → Role → List Standing → List Standing
 standing line role around = record { edges = line; role = role; suites = suites_below line role (suites around) } ∷ around
@@ -115,15 +122,20 @@ last (line ∷ above) = Some line
 abbrev pub chain : Setting → List Edges → List Standing
 chain setting [] = []
 chain setting (line ∷ above) =
-    standing line (role_by setting (last above) (left line.indent (chain setting above)) line) (left line.indent (chain setting above))
+    standing line (role_by setting (last above) (left line.indent (chain setting above)) line)
+    (round_by (role_by setting (last above) (left line.indent (chain setting above)) line) (left line.indent (chain setting above)))
 
--- the lines round a line of indentation n
+-- the lines round a line of indentation n that is no refinement heading
 abbrev pub around : Setting → ℕ → List Edges → List Standing
 around setting n above = left n (chain setting above)
 
 -- what a line is in its item
 abbrev pub role_of : Setting → List Edges → Edges → Role
 role_of setting above line = role_by setting (last above) (around setting line.indent above) line
+
+-- the suites that are open at a line
+abbrev pub suites_at : Setting → List Edges → Edges → ℕ
+suites_at setting above line = suites (round_by (role_of setting above line) (around setting line.indent above))
 
 abbrev pub next_number : Option Section → ℕ
 next_number None = 0
@@ -147,7 +159,7 @@ place_of setting above line = record {
   number = length above + 1;
   before = last above;
   level = stands_at line.indent (chain setting above);
-  suites = suites (around setting line.indent above);
+  suites = suites_at setting above line;
   role = role_of setting above line;
   section = section_of setting (line ∷ above);
 }

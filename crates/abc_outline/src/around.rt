@@ -1,7 +1,7 @@
 //! The lines round a line.
 ghost use Rattle.std.specs.Prelude.{◌≡◌, List, [], ◌∷◌, OnOk, OnErr, MatchOption};
 ghost use Rattle.abc_outline.specs.declared.edges.Standing.{Standing};
-ghost use Rattle.abc_outline.specs.Outline.{begins_at, is_chosen, is_command, left, not_deeper, opens_select, suites};
+ghost use Rattle.abc_outline.specs.Outline.{begins_at, is_chosen, is_command, left, not_deeper, opens_select, round_by, suites};
 
 use crate::edges::{Edges, Role, Standing};
 use abc_num::OutOfMemory;
@@ -88,6 +88,16 @@ impl Around {
                 break;
             }
             let _ = self.pop();
+        }
+    }
+
+    /// Leaves all of them where these are to stand round a refinement heading.
+    pub(crate) fn leave_at(&mut self, role: Role)
+        ensures { self.new ≡ round_by role self.old }
+    {
+        match role {
+            Role::RefinementHeading => self.lines.clear(),
+            Role::UnitHeading | Role::Alternative | Role::Command => {}
         }
     }
 

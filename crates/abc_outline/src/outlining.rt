@@ -175,6 +175,7 @@ impl Outline {
         let level = self.around.begins_at(line.indent);
         self.around.leave(line.indent);
         let role = role_by(self.setting, self.before, &self.around, line);
+        self.around.leave_at(role);
         let suites = self.around.suites();
         let section = section_by(role, line, self.section);
         let place = Place {

@@ -10,7 +10,7 @@ use Rattle.abc_tree.specs.declared.commands.Command.{Command}
 use Rattle.abc_tree.specs.declared.commands.Unit.{Unit as Routine}
 use Rattle.abc_outline.specs.declared.edges.Role.TheVariants as role
 use Rattle.abc_outline.specs.declared.rows.Row.{Row}
-use Rattle.abc_outline.specs.Outline.{first_role, is_refinement, next_number, section_by, suites_below}
+use Rattle.abc_outline.specs.Outline.{first_role, is_refinement, next_number, round_by, section_by, suites, suites_at, suites_below}
 use Rattle.abc_clauses.specs.declared.clause.Clause.{Clause}
 use Rattle.abc_clauses.specs.declared.clause.Head.{Head}
 use Rattle.abc_clauses.specs.declared.clause.Head.TheVariants as head
@@ -32,7 +32,7 @@ use Rattle.abc_parse.specs.Roots.{kept, taken}
 use Rattle.abc_parse.specs.Trees.{made_alone, made_over, root}
 use Rattle.abc_faults.proofs.Around.{at_most}
 use Rattle.abc_parse.proofs.each_thing.EachLine.{Has, OfRefinements, IsSoundCut, depth_beside, each_cut, found, part_alone, part_over, suite_has, turned}
-use Rattle.abc_parse.proofs.each_thing.EachPart.{AreGood, first_root, good_parts, section_at}
+use Rattle.abc_parse.proofs.each_thing.EachPart.{AreGood, first_root, good_parts, none_round, section_at}
 use Rattle.abc_parse.proofs.spelling.Formed.{Says, it_suits, not_refined, quiet, role_at}
 use Rattle.abc_faults.proofs.Leasts.{or_none}
 use Rattle.abc_parse.proofs.each_thing.PartsMade.{All, OfBeside, OfPart, OfSuite, mapped, some_same}
@@ -113,9 +113,9 @@ module _ (Q : Option ℕ → ℕ → Piece → Type 0) (facts : Facts) (first : 
       let s = sound_cut say m.cut m.cut_is in
       let o : section_at facts.setting (edges (first ∷ [])) ≡ None = ap (λ u. option_map (λ section. section.number) (section_by (first_role u) first.edges None)) unit in
       let deeper : (n : ℕ) → 0 < n → first.edges.indent < n = λ n positive. (let low : first.edges.indent ≤ 0 = at_front in omega arith) in
-      let parts = good_parts Q facts.setting first.edges [] (λ n positive deep. deeper n positive) (ap (λ u. suites_below first.edges (first_role u) 0) unit) (first_root m.cut.roots) m.cut.roots s.0.0 in
+      let parts = good_parts Q facts.setting first.edges [] (λ n positive deep. deeper n positive) (ap (λ u. suites_below first.edges (first_role u) (suites (round_by (first_role u) []))) unit) (first_root m.cut.roots) m.cut.roots s.0.0 in
       let has = each [] first rows clause refl says fine in
-      let beside = subst (λ n. OfBeside Q (section_at facts.setting (edges (first ∷ []))) n clause.line clause.beside) m.title.depth has.beside in
+      let beside = subst (λ n. OfBeside Q (section_at facts.setting (edges (first ∷ []))) n clause.line clause.beside) (ap (λ n. depth_beside n clause.head) (none_round (role_at facts [] first)) ∙ m.title.depth) has.beside in
       let body = suite_has Q facts (section_at facts.setting (edges (first ∷ []))) clause.line clause.beside m.cut.roots m.headed.body m.title.body parts beside in
       let more = subst (λ n. OfRefinements Q facts n m.cut.refinements) (ap (λ u. next_number (section_by (first_role u) first.edges None)) unit) s.1 in (
         subst (OfSuite Q None 1) (sym (ap (λ (u : Routine). u.body) m.is)) (subst (λ o. OfSuite Q o 1 m.headed.body) o body),
@@ -135,8 +135,11 @@ module _ (Q : Option ℕ → ℕ → Piece → Type 0) (facts : Facts) (first : 
       let not_unit : role_at facts [] first ≡ role.UnitHeading → ⊥ = λ e. (let z : role.Command ≡ role.UnitHeading = sym (ap first_role unit) ∙ e in cc) in
       let unheaded = not_refined facts (refinement_kind facts) (role_at facts [] first) clause.head clause.beside (it_suits facts [] first clause says) plain in
       let has = each [] first rows clause refl says fine in
-      let over = part_over Q facts [] first rows clause says fine plain not_unit unheaded has q.0.roots in
-      let alone = part_alone Q facts [] first rows clause says fine plain not_unit unheaded has in
+      let none : suites_at facts.setting [] first.edges ≡ 0 = none_round (role_at facts [] first) in
+      let over : (part : Part) → made_over clause (taken first.edges.indent q.0.roots) ≡ Some part → AreGood Q facts.setting (edges (first ∷ [])) (first_root q.0.roots) q.0.roots → OfPart Q None 0 part =
+      λ part a g. subst (λ n. OfPart Q None n part) none (part_over Q facts [] first rows clause says fine plain not_unit unheaded has q.0.roots part a g) in
+      let alone : (part : Part) → made_alone clause ≡ Some part → OfPart Q None 0 part =
+      λ part a. subst (λ n. OfPart Q None n part) none (part_alone Q facts [] first rows clause says fine plain not_unit unheaded has part a) in
       subst (λ (c : Command). All Q None 0 (piece.parts_of c.action)) (sym m.2) (by q.0.roots s.0.0 over alone r.0 r.2 (opens clause) r.1)
     where
       by : (roots : List Root) → AreGood Q facts.setting (edges (first ∷ [])) (first_root roots) roots

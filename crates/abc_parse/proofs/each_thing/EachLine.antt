@@ -13,7 +13,7 @@ use Rattle.abc_outline.specs.declared.edges.Role.{Role}
 use Rattle.abc_outline.specs.declared.edges.Role.TheVariants as role
 use Rattle.abc_outline.specs.declared.edges.Section.{Section}
 use Rattle.abc_outline.specs.declared.rows.Row.{Row}
-use Rattle.abc_outline.specs.Outline.{is_refinement, next_number, section_by, section_of, suites_below}
+use Rattle.abc_outline.specs.Outline.{is_refinement, next_number, section_by, section_of, suites_at, suites_below}
 use Rattle.abc_clauses.specs.declared.clause.Clause.{Clause}
 use Rattle.abc_clauses.specs.declared.clause.Head.{Head}
 use Rattle.abc_clauses.specs.declared.clause.Head.TheVariants as head
@@ -32,7 +32,7 @@ use Rattle.abc_parse.specs.Readings.{and_then, cut_by, cut_of, made, one_more, s
 use Rattle.abc_parse.specs.Roots.{kept, parts_of, taken}
 use Rattle.abc_parse.specs.Trees.{made_alone, made_over, refined, refinement_of, root}
 use Rattle.abc_faults.proofs.Around.{not_first}
-use Rattle.abc_parse.proofs.each_thing.EachPart.{AreGood, BeginsWith, IsDeepIn, IsFirstBelow, IsFirstLow, IsGood, IsLevel, IsPlaced, Siblings, all_kept, below_is, else_is_last, first_below, first_root, good_kept, good_parts, good_taken, same_section, section_at, siblings_alone, siblings_over, suites_at}
+use Rattle.abc_parse.proofs.each_thing.EachPart.{AreGood, BeginsWith, IsDeepIn, IsFirstBelow, IsFirstLow, IsGood, IsLevel, IsPlaced, Siblings, all_kept, below_is, else_is_last, first_below, first_root, good_kept, good_parts, good_taken, plain_suites, same_section, section_at, siblings_alone, siblings_over}
 use Rattle.abc_parse.proofs.spelling.Formed.{Says, ends, heading_head, it_suits, next_low, not_behind, not_refined, placed, quiet, role_at, selects}
 use Rattle.abc_faults.proofs.Leasts.{or_none}
 use Rattle.abc_parse.proofs.each_thing.PartsMade.{OfBeside, OfHead, OfPart, OfParts, OfSuite, all_both, alone_part, else_alone, else_over, is_else_part, mapped, of_action, over_part, some_same, suite_of_parts}
@@ -103,8 +103,8 @@ depth_one d (head.Unit y z) x e = absurd cc
 module _ (Q : Option ℕ → ℕ → Piece → Type 0) (facts : Facts) where
   -- what a line says has it, and so has what stands beside it
   pub record Has (above : List Row) (row : Row) (clause : Clause) : Type 0 where
-    pub said : OfHead Q (section_at facts.setting (edges (row ∷ above))) (suites_at facts.setting (edges above) row.edges.indent) clause.line clause.head
-    pub beside : OfBeside Q (section_at facts.setting (edges (row ∷ above))) (depth_beside (suites_at facts.setting (edges above) row.edges.indent) clause.head) clause.line clause.beside
+    pub said : OfHead Q (section_at facts.setting (edges (row ∷ above))) (suites_at facts.setting (edges above) row.edges) clause.line clause.head
+    pub beside : OfBeside Q (section_at facts.setting (edges (row ∷ above))) (depth_beside (suites_at facts.setting (edges above) row.edges) clause.head) clause.line clause.beside
 
   abbrev pub OfRefinements : ℕ → List Refinement → Type 0
   OfRefinements n [] = Unit {0}
@@ -131,7 +131,7 @@ module _ (Q : Option ℕ → ℕ → Piece → Type 0) (facts : Facts) where
     o = section_at facts.setting (edges above)
 
     abbrev d : ℕ
-    d = suites_at facts.setting (edges above) row.edges.indent
+    d = suites_at facts.setting (edges above) row.edges
 
     same_number : section_at facts.setting (edges (row ∷ above)) ≡ o
     same_number = ap (option_map (λ section. section.number)) (same_section (role_at facts above row) row.edges (section_of facts.setting (edges above)) plain)
@@ -172,7 +172,7 @@ module _ (Q : Option ℕ → ℕ → Piece → Type 0) (facts : Facts) where
         deep = deep_by (section_of facts.setting (edges above)) (role_at facts above row) row.edges.indent
             (sym (ap (behind_refinement (role_at facts above row) row.edges.indent) (same_section (role_at facts above row) row.edges (section_of facts.setting (edges above)) plain))
             ∙ not_behind facts above row clause says rows fine) plain;
-        has = h;
+        has = subst (λ n. OfPart Q o n part) (plain_suites facts.setting row.edges (edges above) plain) h;
         last = l;
       }
 
@@ -235,7 +235,7 @@ module _ (Q : Option ℕ → ℕ → Piece → Type 0) (facts : Facts) where
 
     pub heading_suite : (roots : List Root) (suite : List Action) → suite_of clause.line clause.beside roots ≡ Some suite → Sound (row ∷ above) rows roots → OfSuite Q (Some count) 1 suite
     heading_suite roots suite e s =
-        let d = suites_at facts.setting (edges above) row.edges.indent in
+        let d = suites_at facts.setting (edges above) row.edges in
         let a = good_parts Q facts.setting row.edges (edges above) (λ n positive deep. subst (λ s. IsDeepIn s n) section_is deep)
         (ap (λ r. suites_below row.edges r d) (role_is (role_at facts above row) heading)) (first_root roots) roots s.0 in
         let b = subst (λ n. OfBeside Q (section_at facts.setting (edges (row ∷ above))) n clause.line clause.beside) (depth_one d clause.head x named) has.beside in

@@ -11,7 +11,7 @@ use Rattle.abc_outline.specs.declared.edges.Section.{Section}
 use Rattle.abc_outline.specs.declared.edges.Setting.{Setting}
 use Rattle.abc_outline.specs.declared.edges.Standing.{Standing}
 use Rattle.abc_outline.specs.declared.rows.Row.{Row}
-use Rattle.abc_outline.specs.Outline.{around, begins_at, chain, is_refinement, left, not_deeper, opens_select, role_of, section_by, section_of, standing, stands_at, suites, suites_below}
+use Rattle.abc_outline.specs.Outline.{around, begins_at, chain, is_refinement, left, not_deeper, opens_select, role_of, round_by, section_by, section_of, standing, stands_at, suites, suites_at, suites_below}
 use Rattle.abc_clauses.specs.declared.clause.Head.{Head}
 use Rattle.abc_clauses.specs.declared.clause.Head.TheVariants as head
 use Rattle.abc_faults.specs.Causes.{goes_on}
@@ -20,7 +20,7 @@ use Rattle.abc_clauses.specs.Edges.{is_select}
 use Rattle.abc_parse.specs.declared.parts.Root.{Root}
 use Rattle.abc_parse.specs.declared.parts.Part.{Part}
 use Rattle.abc_parse.specs.Roots.{kept, parts_of, taken}
-use Rattle.abc_faults.proofs.Around.{around_first, around_same, at_most, not_lt}
+use Rattle.abc_faults.proofs.Around.{around_first, around_same, at_most, not_lt, plain_round}
 use Rattle.abc_parse.proofs.each_thing.PartsMade.{ElseIsLast, OfPart, OfParts, depth_below, is_else_part}
 
 -- ---- the lines round a line
@@ -36,11 +36,12 @@ not_deeper_left k n lt (line ∷ lines) = step (nat_lt line.edges.indent n) refl
 
 module _ (setting : Setting) (row : Edges) (above : List Edges) where
   abbrev round : List Standing
-  round = left row.indent (chain setting above)
+  round = round_by (role_of setting above row) (left row.indent (chain setting above))
 
-  pub stands_up : (k : ℕ) → k < row.indent → stands_at k (chain setting (row ∷ above)) ≡ true → stands_at k (chain setting above) ≡ true
-  stands_up k lt e =
-      sym (ap (begins_at k) (ap (λ b. cond b (not_deeper k round) (standing row (role_of setting above row) round)) (lt-ltb k row.indent lt) ∙ not_deeper_left k row.indent lt (chain setting above))) ∙ e
+  pub stands_up : is_refinement (role_of setting above row) ≡ false → (k : ℕ) → k < row.indent → stands_at k (chain setting (row ∷ above)) ≡ true → stands_at k (chain setting above) ≡ true
+  stands_up plain k lt e =
+      sym (ap (begins_at k) (ap (λ b. cond b (not_deeper k round) (standing row (role_of setting above row) round)) (lt-ltb k row.indent lt)
+      ∙ ap (not_deeper k) (plain_round (role_of setting above row) (left row.indent (chain setting above)) plain) ∙ not_deeper_left k row.indent lt (chain setting above))) ∙ e
 
   pub none_stands_deeper : (k : ℕ) → row.indent < k → stands_at k (chain setting (row ∷ above)) ≡ true → ⊥
   none_stands_deeper k lt e =
@@ -175,8 +176,19 @@ module _ (setting : Setting) where
   abbrev pub section_at : List Edges → Option ℕ
   section_at above = option_map (λ section. section.number) (section_of setting above)
 
-  abbrev pub suites_at : List Edges → ℕ → ℕ
-  suites_at above n = suites (around setting n above)
+  -- the suites that are open at a line of indentation n that is no heading
+  abbrev pub suites_around : List Edges → ℕ → ℕ
+  suites_around above n = suites (around setting n above)
+
+  pub plain_suites : (row : Edges) (above : List Edges) → is_refinement (role_of setting above row) ≡ false → suites_at setting above row ≡ suites_around above row.indent
+  plain_suites row above plain = ap suites (plain_round (role_of setting above row) (around setting row.indent above) plain)
+
+-- none is open at the first line
+pub none_round : (r : Role) → suites (round_by r []) ≡ 0
+none_round role.RefinementHeading = refl
+none_round role.UnitHeading = refl
+none_round role.Alternative = refl
+none_round role.Command = refl
 
 module _ (Q : Option ℕ → ℕ → Piece → Type 0) (setting : Setting) where
   pub record IsGood (above : List Edges) (m : ℕ) (r : Root) (roots : List Root) : Type 0 where
@@ -184,7 +196,7 @@ module _ (Q : Option ℕ → ℕ → Piece → Type 0) (setting : Setting) where
     pub inner : 0 < r.indent
     pub level : IsLevel setting above m r.indent
     pub deep : IsDeepIn (section_of setting above) r.indent
-    pub has : OfPart Q (section_at setting above) (suites_at setting above r.indent) r.part
+    pub has : OfPart Q (section_at setting above) (suites_around setting above r.indent) r.part
     pub last : is_else_part r.part ≡ true → IsFirstBelow r.indent roots
 
   abbrev pub AreGood : List Edges → ℕ → List Root → Type 0
@@ -197,7 +209,7 @@ module _ (Q : Option ℕ → ℕ → Piece → Type 0) (setting : Setting) where
     section_up = same_section (role_of setting above row) row (section_of setting above) plain
 
     abbrev pub suites_here : ℕ
-    suites_here = suites_below row (role_of setting above row) (suites_at setting above row.indent)
+    suites_here = suites_below row (role_of setting above row) (suites_at setting above row)
 
     pub good_taken : (m : ℕ) (roots : List Root) → AreGood (row ∷ above) m roots
         → OfParts Q (section_at setting above) suites_here (taken row.indent roots)
@@ -222,7 +234,7 @@ module _ (Q : Option ℕ → ℕ → Piece → Type 0) (setting : Setting) where
     level_up m k n le same (inr s) = by (cases_eq k row.indent) where
       by : (k ≡ row.indent) ⊎ (k ≡ row.indent → ⊥) → IsLevel setting above n k
       by (inl e) = at_row own k n e (same e)
-      by (inr e) = inr (stands_up setting row above k (omega arith) s)
+      by (inr e) = inr (stands_up setting row above plain k (omega arith) s)
 
     good_up : (m n : ℕ) (r : Root) (roots : List Root) → r.indent ≤ row.indent → r.indent ≤ n → (r.indent ≡ row.indent → n ≡ r.indent) → IsGood (row ∷ above) m r roots → IsGood above n r roots
     good_up m n r roots le low same g = record {
@@ -230,8 +242,8 @@ module _ (Q : Option ℕ → ℕ → Piece → Type 0) (setting : Setting) where
       inner = g.inner;
       level = level_up m r.indent n le same g.level;
       deep = subst (λ s. IsDeepIn s r.indent) (section_up row above plain) g.deep;
-      has = subst (λ s. OfPart Q s (suites_at setting above r.indent) r.part) (ap (option_map (λ section. section.number)) (section_up row above plain))
-          (subst (λ d. OfPart Q (section_at setting (row ∷ above)) d r.part) (ap suites (around_same setting row above r.indent le)) g.has);
+      has = subst (λ s. OfPart Q s (suites_around setting above r.indent) r.part) (ap (option_map (λ section. section.number)) (section_up row above plain))
+          (subst (λ d. OfPart Q (section_at setting (row ∷ above)) d r.part) (ap suites (around_same setting row above plain r.indent le)) g.has);
       last = g.last;
     }
 
@@ -269,7 +281,7 @@ module _ (Q : Option ℕ → ℕ → Piece → Type 0) (setting : Setting) where
 
   -- the roots of the suite of a heading, which are all deeper
   module _ (row : Edges) (above : List Edges) (deeper : (k : ℕ) → 0 < k → IsDeepIn (section_of setting (row ∷ above)) k → row.indent < k)
-      (one : suites_below row (role_of setting above row) (suites_at setting above row.indent) ≡ 1) where
+      (one : suites_below row (role_of setting above row) (suites_at setting above row) ≡ 1) where
     pub good_parts : (m : ℕ) (roots : List Root) → AreGood (row ∷ above) m roots → OfParts Q (section_at setting (row ∷ above)) 1 (parts_of roots)
     good_parts m [] g = tt
     good_parts m (r ∷ roots) g = (

@@ -12,7 +12,7 @@ use Rattle.abc_tree.specs.declared.commands.ActionNode.{ActionNode}
 use Rattle.abc_tree.specs.declared.commands.RefinementKind.{RefinementKind}
 use Rattle.abc_outline.specs.declared.edges.Section.{Section}
 use Rattle.abc_outline.specs.declared.rows.Row.{Row}
-use Rattle.abc_outline.specs.Outline.{section_of}
+use Rattle.abc_outline.specs.Outline.{section_of, suites_at}
 use Rattle.abc_clauses.specs.declared.clause.Clause.{Clause}
 use Rattle.abc_clauses.specs.declared.clause.Head.{Head}
 use Rattle.abc_clauses.specs.declared.clause.Head.TheVariants as head
@@ -26,7 +26,7 @@ use Rattle.abc_faults.specs.Faults.{fault_from}
 use Rattle.abc_faults.proofs.Around.{at_most}
 use Rattle.abc_faults.proofs.Leasts.{or_none}
 use Rattle.abc_parse.proofs.each_thing.EachLine.{Has, depth_beside}
-use Rattle.abc_parse.proofs.each_thing.EachPart.{section_at, suites_at}
+use Rattle.abc_parse.proofs.each_thing.EachPart.{section_at}
 use Rattle.abc_parse.proofs.spelling.Formed.{Says, placed, quiet}
 use Rattle.abc_parse.proofs.each_thing.PartsMade.{All, OfBeside, OfHead, all_both}
 use Rattle.abc_parse.proofs.each_thing.Titles.{line_number, line_told}
@@ -128,7 +128,7 @@ not_many facts above row rows clause says fine = sym (ap (λ x. where_said x (to
 
 module _ (laws : ReadingLaws) (facts : Facts) (above : List Row) (row : Row) (rows : List Row) (clause : Clause) (says : Says facts above row clause) (fine : cause facts above row rows ≡ None) where
   abbrev d : ℕ
-  d = suites_at facts.setting (edges above) row.edges.indent
+  d = suites_at facts.setting (edges above) row.edges
 
   abbrev o : Option ℕ
   o = section_at facts.setting (edges (row ∷ above))

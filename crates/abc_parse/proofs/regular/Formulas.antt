@@ -40,7 +40,8 @@ use Rattle.abc_faults.specs.Names.{names_here, taken}
 use Rattle.abc_faults.specs.Sayings.{AllSay}
 use Rattle.abc_meaning.specs.Written.{numbers_in_part}
 use Rattle.abc_parse.proofs.each_thing.EachLine.{Has, depth_beside, turned}
-use Rattle.abc_parse.proofs.each_thing.EachPart.{section_at, suites_at}
+use Rattle.abc_outline.specs.Outline.{suites_at}
+use Rattle.abc_parse.proofs.each_thing.EachPart.{section_at}
 use Rattle.abc_parse.proofs.units.FewNames.{has}
 use Rattle.abc_parse.proofs.spelling.Formed.{Says, placed, role_at}
 use Rattle.abc_parse.proofs.each_thing.Limits.{not_many}
@@ -222,8 +223,8 @@ module _ (laws : ReadingLaws) (regular : LinesAreRegular) (targets : List (List 
 
     pub line_good : Has (IsGood facts told) facts above one clause
     line_good = record {
-      said = good_head facts told (section_at facts.setting (edges (one ∷ above))) (suites_at facts.setting (edges above) one.edges.indent) clause.line clause.head line_regular.said line_is_told.0
+      said = good_head facts told (section_at facts.setting (edges (one ∷ above))) (suites_at facts.setting (edges above) one.edges) clause.line clause.head line_regular.said line_is_told.0
           line_numbered.0;
-      beside = good_beside facts told (section_at facts.setting (edges (one ∷ above))) (depth_beside (suites_at facts.setting (edges above) one.edges.indent) clause.head) clause.line clause.beside
+      beside = good_beside facts told (section_at facts.setting (edges (one ∷ above))) (depth_beside (suites_at facts.setting (edges above) one.edges) clause.head) clause.line clause.beside
           line_regular.beside line_is_told.1 line_numbered.1;
     }

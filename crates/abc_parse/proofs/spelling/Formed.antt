@@ -60,18 +60,18 @@ kept_deep n m (r ∷ roots) d = step (nat_lt m r.indent) (kept_deep n m roots d.
   step true ih = ih
   step false ih = d
 
-module _ (setting : Setting) (line_ : Edges) (above : List Edges) where
+module _ (setting : Setting) (line_ : Edges) (above : List Edges) (plain : is_refinement (role_of setting above line_) ≡ false) where
   good_up : (m n : ℕ) → m ≤ n → m ≤ line_.indent → (roots : List Root) → Good setting (line_ ∷ above) m roots → Good setting above n roots
   good_up m n le low [] g = tt
   good_up m n le low (r ∷ roots) g =
-      (omega arith, g.1 ∙ ap is_chosen (around_same setting line_ above r.indent (omega arith)), good_up r.indent r.indent (omega arith) (omega arith) roots g.2)
+      (omega arith, g.1 ∙ ap is_chosen (around_same setting line_ above plain r.indent (omega arith)), good_up r.indent r.indent (omega arith) (omega arith) roots g.2)
 
   good_step : (m : ℕ) (r : Root) (roots : List Root) (t : Bool) → nat_lt line_.indent r.indent ≡ t → Good setting (line_ ∷ above) m (r ∷ roots)
       → Good setting above line_.indent (kept line_.indent roots) → Good setting above line_.indent (cond t (kept line_.indent roots) (r ∷ roots))
   good_step m r roots true e g ih = ih
   good_step m r roots false e g ih =
       let low : r.indent ≤ line_.indent = at_most line_.indent r.indent e in
-      (low, g.1 ∙ ap is_chosen (around_same setting line_ above r.indent low), good_up r.indent r.indent (omega arith) low roots g.2)
+      (low, g.1 ∙ ap is_chosen (around_same setting line_ above plain r.indent low), good_up r.indent r.indent (omega arith) low roots g.2)
 
   pub good_kept : (m : ℕ) (roots : List Root) → Good setting (line_ ∷ above) m roots → Good setting above line_.indent (kept line_.indent roots)
   good_kept m [] g = tt
@@ -309,7 +309,7 @@ module _ (facts : Facts) (kinds : List ℕ → RefinementKind) where
         here_role clause.head clause.beside (it_suits facts above row clause says) o (selects facts above row clause says) low_role not_unit (otherwise_chosen facts above row clause says rows fine) in (
           root (saying row clause) q.0 ∷ kept row.edges.indent roots,
           reads_over (saying row clause) front roots q.0 r o (sym q.1),
-          (omega arith, part_kind q.0 q.2, good_kept facts.setting row.edges (edges above) (first_indent front) roots g),
+          (omega arith, part_kind q.0 q.2, good_kept facts.setting row.edges (edges above) low_role (first_indent front) roots g),
           (λ n lt d. (lt, kept_deep n row.edges.indent roots d)),
         )
 
@@ -321,7 +321,7 @@ module _ (facts : Facts) (kinds : List ℕ → RefinementKind) where
         here_role clause.head clause.beside (it_suits facts above row clause says) o (selects facts above row clause says) (select_no_colon colon) low_role not_unit (otherwise_chosen facts above row clause says rows fine) in (
           root (saying row clause) q.0 ∷ roots,
           reads_plain (saying row clause) front roots q.0 r (sym q.1),
-          (omega arith, part_kind q.0 q.2, good_up facts.setting row.edges (edges above) (first_indent front) row.edges.indent low low roots g),
+          (omega arith, part_kind q.0 q.2, good_up facts.setting row.edges (edges above) low_role (first_indent front) row.edges.indent low low roots g),
           (λ n lt d. (lt, d)),
         )
 

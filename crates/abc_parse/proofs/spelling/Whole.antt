@@ -232,7 +232,7 @@ module _ (facts : Facts) (first : Row) (rows : List Row) (f : fault_from facts [
     by : (b : Bool) → nat_lt first.edges.indent r ≡ b → is_chosen (around facts.setting r (first.edges ∷ [])) ≡ false
     by true e =
         chosen_first facts.setting first.edges [] r (ltb-true first.edges.indent r e) ∙ ap (λ u. opens_select first.edges (first_role u)) unit ∙ no_select first.edges
-    by false e = ap is_chosen (around_same facts.setting first.edges [] r (at_most first.edges.indent r e))
+    by false e = ap is_chosen (around_same facts.setting first.edges [] (ap (λ u. is_refinement (first_role u)) unit) r (at_most first.edges.indent r e))
 
   body_commands : facts.setting.unit ≡ true → (m : ℕ) (roots : List Root) → Good facts.setting (first.edges ∷ []) m roots → Commands (parts_of roots)
   body_commands unit m [] g = ([], refl)
