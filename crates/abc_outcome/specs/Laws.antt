@@ -7,6 +7,8 @@ use Rattle.abc_num.specs.declared.lines.RawLine.{RawLine}
 use Rattle.abc_journal.specs.declared.layout.Bounds.{Bounds}
 use Rattle.abc_tree.specs.declared.commands.Command.{Command}
 use Rattle.abc_tree.specs.declared.commands.Unit.{Unit as Routine}
+use Rattle.abc_tree.specs.Templates.{template_text}
+use Rattle.abc_tree.specs.declared.commands.Item.{Item}
 use Rattle.abc_tree.specs.declared.commands.Item.TheVariants as item
 use Rattle.abc_tree.specs.Units.{AreRising as AreInOrder}
 use Rattle.abc_frames.specs.Maps.{AreRegular}
@@ -46,14 +48,14 @@ NoReplyIsEmpty =
     (type_line : Option ℕ) (bounds : Bounds) (budget k : ℕ) (work later : Work) (item : List Line) (behind : Behind) (reply : List ℕ) (left : List RawLine) (quits : Bool)
     → outcome type_line bounds budget k work item behind ≡ came reply later left quits → 0 < length reply
 
--- a reply line that says that item k was accepted: a command ran, a line that asks was answered, or a unit was set
-pub data IsAccepting (k : ℕ) : List ℕ → Type 0 where
-  ran : IsAccepting k (ok_line k)
-  set : (template : List ℕ) (missing : Option (List ℕ)) → IsAccepting k (unit_line k template missing)
+-- a reply line that says that item k was accepted, which was read so: a command ran, a line that asks was answered, or this unit was set
+pub data IsAccepting (k : ℕ) (read : Option Item) : List ℕ → Type 0 where
+  ran : IsAccepting k read (ok_line k)
+  set : (u : Routine) (missing : Option (List ℕ)) → read ≡ Some (item.Unit u) → IsAccepting k read (unit_line k (template_text u.template) missing)
 
 -- the item was accepted, and says so behind what it wrote
-abbrev pub IsServed : ℕ → List ℕ → Type 0
-IsServed k reply = (output line : List ℕ) × IsAccepting k line × (reply ≡ said output line)
+abbrev pub IsServed : ℕ → Option Item → List ℕ → Type 0
+IsServed k read reply = (output line : List ℕ) × IsAccepting k read line × (reply ≡ said output line)
 
 -- the workspace is as before, and the session goes on
 abbrev pub IsUnchanged : Work → Work → Bool → Type 0
@@ -63,7 +65,8 @@ IsUnchanged work later quits = (later.kept ≡ work.kept) × (quits ≡ false)
 abbrev pub RefusalsChangeNothing : Type 0
 RefusalsChangeNothing =
     (type_line : Option ℕ) (bounds : Bounds) (budget k : ℕ) (work later : Work) (item : List Line) (behind : Behind) (reply : List ℕ) (left : List RawLine) (quits : Bool)
-    → outcome type_line bounds budget k work item behind ≡ came reply later left quits → IsServed k reply ⊎ IsUnchanged work later quits
+    → outcome type_line bounds budget k work item behind ≡ came reply later left quits
+    → IsServed k (item_of item (keys_of work.kept.targets)) reply ⊎ IsUnchanged work later quits
 
 -- the missing template that is told is the least one that is reached; where none is told, none is missing
 abbrev pub LeastIsMissing : Type 0

@@ -369,6 +369,7 @@ module _ (types : Told) (bounds : Bounds) (steps : ℕ) (start : Work) (first : 
       → IsWaiting types bounds steps start first.left first.said new stops
   waits new stops told wants same opens =
       record {
+        waits = ap (λ (s : Session Work). s.ending) (settled_then new.taken wants);
         between = between_later OpensTo (works start (session_of types bounds steps start first.left)) (replies (session_of types bounds steps start first.left))
             (works place.work (session_at types bounds steps place)) (replies (session_at types bounds steps place)) first.said place.said new.said stops
             (told_served _ _ _ _ tells_said first.said place.said told (went_on types bounds steps start first tells_said place went))
