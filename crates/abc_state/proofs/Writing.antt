@@ -1,5 +1,5 @@
 -- What is written, by its text.
-use Rattle.std.proofs.Common.{◌+◌, ◌≡◌, ℕ, List, ◌++◌, Option, Result, sym, subst}
+use Rattle.std.proofs.Common.{◌≡◌, ℕ, List, ◌++◌, Option, Result, sym, subst}
 use Rattle.abc_value.specs.Tree.{Tree}
 use Rattle.abc_meaning.specs.State.{State, gives, after}
 use Rattle.abc_meaning.specs.Here.{Here}

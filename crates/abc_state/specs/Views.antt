@@ -1,10 +1,17 @@
 -- How the state of a run is seen that the code holds.
-use Rattle.std.specs.Prelude.{ℕ, Bool, List, map, option_map}
+use Rattle.std.specs.Prelude.{ℕ, Bool, List, [], ◌∷◌, map, option_map, Result, Ok, Err, if◌then◌else◌}
+use Rattle.std.specs.List.{flat_map}
+use Rattle.abc_value.specs.declared.faults.ValueFault.{ValueFault}
+use Rattle.abc_value.specs.Tree.{Tree}
+use Rattle.abc_value.specs.Parts.{parts_of}
+use Rattle.abc_value.specs.Items.{range_of}
+use Rattle.abc_value.specs.Printed.{outer}
 use Rattle.abc_frames.specs.Maps.{Targets}
 use Rattle.abc_num.specs.declared.lines.RawLine.{RawLine}
 use Rattle.abc_meaning.specs.State.{State, Step, key, Address, place, several, row, Formal, Flow, goes_on, quits, returns, reports}
 use Rattle.abc_meaning.specs.Here.{Here, Scope}
 use Rattle.abc_meaning.specs.Deeper.{Actual}
+use Rattle.abc_meaning.specs.Fits.{have_range}
 use Rattle.abc_meaning.specs.Value.{Filling, Tabling, Wording}
 use Rattle.abc_state.specs.declared.spots.Step.{Step as HeldStep}
 use Rattle.abc_state.specs.declared.spots.Step.TheVariants.{Key}
@@ -17,8 +24,12 @@ use Rattle.abc_state.specs.declared.halt.Exit.TheVariants.{GoesOn, Quits, Return
 use Rattle.abc_state.specs.declared.scope.Scope.{Scope as Table}
 use Rattle.abc_state.specs.Routines.{routine_of}
 use Rattle.abc_state.specs.declared.actuals.Actual.{Actual as HeldActual}
+use Rattle.abc_state.specs.declared.displays.Filler.{Filler}
+use Rattle.abc_state.specs.declared.displays.Filler.TheVariants.{One, Range}
 use Rattle.abc_state.specs.declared.displays.Filling.{Filling as HeldFilling}
 use Rattle.abc_state.specs.declared.displays.Tabling.{Tabling as HeldTabling}
+use Rattle.abc_state.specs.declared.texts.Stretch.{Stretch}
+use Rattle.abc_state.specs.declared.texts.Stretch.TheVariants.{Characters, Outer}
 use Rattle.abc_state.specs.declared.texts.Wording.{Wording as HeldWording}
 
 -- a step from a value to a part of it
@@ -61,12 +72,31 @@ at scope line = record { scope = scope; line = line }
 abbrev pub actual_of : HeldActual → Actual
 actual_of a = record { value = a.value; address = option_map address_of a.address }
 
+-- the elements of a range that was made; none where that was a fault
+abbrev pub made_elements : Result Tree ValueFault → List Tree
+made_elements (Ok t) = parts_of t
+made_elements (Err f) = []
+
+-- the elements from one value to another; none where these make no range
+abbrev pub range_elements : Tree → Tree → List Tree
+range_elements p q = if have_range p q then made_elements (range_of p q) else []
+
+-- the elements of a filler
+abbrev pub filler_elements : Filler → List Tree
+filler_elements (One v) = v ∷ []
+filler_elements (Range p q) = range_elements p q
+
 -- what was found of a display or of a text
 abbrev pub filling_of : HeldFilling → Filling
-filling_of f = record { elements = f.elements; form = f.shape }
+filling_of f = record { elements = flat_map filler_elements f.fillers; form = f.shape }
 
 abbrev pub tabling_of : HeldTabling → Tabling
 tabling_of t = record { pairs = t.pairs; keys = t.keys; associates = t.associates }
 
+-- the characters of a stretch of a text
+abbrev pub stretch_text : Stretch → List ℕ
+stretch_text (Characters b) = b
+stretch_text (Outer v) = outer v
+
 abbrev pub wording_of : HeldWording → Wording
-wording_of w = record { characters = w.characters; typed = w.typed }
+wording_of w = record { characters = flat_map stretch_text w.stretches; typed = w.typed }

@@ -1,24 +1,23 @@
 //! What a run holds: the names and formals of the call that is under way, the output and the steps left.
-ghost use Rattle.std.specs.Prelude.{◌≡◌, ◌+◌, [], ◌++◌, Bool, List, ℕ, option_map, length as std_length, not, nat_lt, ◌<◌, ◌^◌, IfOk, IfSome, OnOk, OnErr, None};
+ghost use Rattle.std.specs.Prelude.{◌≡◌, ◌+◌, [], ◌++◌, Bool, List, ℕ, option_map, length as std_length, not, nat_lt, ◌<◌, ◌^◌, IfOk, IfErr, IfSome, OnOk, OnErr, None};
 ghost use Rattle.abc_value.specs.Tree.{Tree};
 ghost use Rattle.abc_num.specs.declared.lines.RawLine.{RawLine};
 ghost use Rattle.abc_frames.specs.Maps.{Targets, IsRising, value_at, with_value_at, without_at};
-ghost use Rattle.abc_meaning.specs.State.{State};
+ghost use Rattle.abc_meaning.specs.State.{State, gives};
 ghost use Rattle.abc_meaning.specs.Here.{Here, spend};
 ghost use Rattle.abc_meaning.specs.Ran.{starting};
 ghost use Rattle.abc_state.specs.Views.{state_of};
-ghost use Rattle.abc_state.specs.Agrees.{Agrees};
+ghost use Rattle.abc_state.specs.Agrees.{Agrees, Halts};
 ghost use Rattle.abc_num.specs.declared.limits.TheConstants.{MOST_OUTPUT};
 ghost use Rattle.abc_meaning.specs.Acts.{newlines, say};
 ghost use Rattle.abc_state.specs.Words.{outer_text, write_out};
 
 use crate::halt::Halt;
 use crate::spots::Spot;
-use crate::texts::outer_text;
 use crate::values::has_type;
 use abc_num::limits::MOST_OUTPUT;
 use abc_num::{Items, OutOfMemory, Text};
-use abc_value::{RunFault, Value};
+use abc_value::{PrintFault, RunFault, Value, text_of};
 use std::alloc::Global;
 use std::collections::BTreeMap;
 use std::marker::Model;
@@ -161,9 +160,11 @@ impl Run {
     }
 }
 
-/// The outer text of what is written, if it has a type.
+/// The outer text of what is written, if it has a type. No more of it is made than an item may write at all: a longer one is
+/// TooLong whatever was written before.
 fn written(alloc: Global, part: Option<&Value>) -> Result<Vec<u8>, Halt>
-    ensures { (here : Here) (s : State) → Agrees (λ text. text.items) here.line result s (outer_text here (option_map (λ v. v.now) part.entry) s) }
+    ensures ok { (here : Here) (s : State) → IfOk result (λ text. outer_text here (option_map (λ v. v.now) part.entry) s ≡ gives text.items s) }
+    ensures err { (here : Here) (before behind : ℕ) (s : State) → IfErr result (λ h. Halts here.line h s (write_out here before (option_map (λ v. v.now) part.entry) behind s)) }
 {
     let Some(value) = part else {
         return Ok(Vec::new(alloc));
@@ -171,7 +172,11 @@ fn written(alloc: Global, part: Option<&Value>) -> Result<Vec<u8>, Halt>
     if !has_type(alloc, value)? {
         return Err(Halt::Wrong);
     }
-    Ok(outer_text(alloc, value)?)
+    match text_of(alloc, value, MOST_OUTPUT) {
+        Ok(text) => Ok(text),
+        Err(PrintFault::TooLong) => Err(Halt::Fault(RunFault::TooLong)),
+        Err(PrintFault::Memory) => Err(Halt::Fault(RunFault::Memory)),
+    }
 }
 
 /// Adds a text to the output, with so many ends of lines before it and behind it. Where the output would be too long nothing

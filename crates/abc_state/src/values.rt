@@ -179,7 +179,7 @@ pub fn compared(alloc: Global, op: Op, x: &Value, y: &Value) -> Result<bool, Hal
 }
 
 /// Whether both are numbers, or both are texts.
-fn have_range(p: &Value, q: &Value) -> bool
+pub(crate) fn have_range(p: &Value, q: &Value) -> bool
     ensures computed { result ≡ have_range p.now q.now }
     ensures fits { IsTrue result → HaveRange p.now q.now }
 {
