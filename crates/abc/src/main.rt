@@ -5,20 +5,42 @@
 use abc_outside::RealHost;
 use abc_session::{MEMORY, USAGE, run};
 use std::alloc::AllocError;
-use std::env;
-use std::io::ErrorKind;
+use std::env::FillError;
 use std::process::ExitCode;
+use std::rt::Env;
 
-/// The words without the program's name. One that is not UTF-8 makes all of them unreadable.
-fn words_of(rt: &HostRuntime) -> Result<Vec<String>, u8> {
-    match env::args(rt) {
-        Ok(mut words) => {
-            let _name = words.next();
-            words.collect(rt.alloc()).map_err(|_| MEMORY)
+/// Room for a word. A longer one takes more.
+const SHORT_WORD: usize = 256;
+
+/// The word of this number, or none behind the last. One that is not UTF-8 makes all of them unreadable.
+fn word(rt: &HostRuntime, number: usize) -> Result<Option<String>, u8> {
+    let mut bytes = vec![in rt.alloc(); 0; SHORT_WORD].map_err(|_| MEMORY)?;
+    for _ in 0..usize::BITS {
+        match rt.arg(number, &mut bytes) {
+            Ok(length) => {
+                bytes.truncate(length);
+                return String::from_utf8(bytes).map(Some).map_err(|_| USAGE);
+            }
+            Err(FillError::NotPresent) => return Ok(None),
+            Err(FillError::TooLong) => {
+                let room = bytes.len().saturating_mul(2);
+                bytes.resize(room, 0).map_err(|_| MEMORY)?;
+            }
         }
-        Err(error) if error.kind() == ErrorKind::OutOfMemory => Err(MEMORY),
-        Err(_) => Err(USAGE),
     }
+    Err(MEMORY)
+}
+
+/// The words without the program's name, which may be any bytes.
+fn words_of(rt: &HostRuntime) -> Result<Vec<String>, u8> {
+    let mut words = Vec::new(rt.alloc());
+    for number in 1..usize::MAX {
+        let Some(word) = word(rt, number)? else {
+            return Ok(words);
+        };
+        words.push(word).map_err(|_| MEMORY)?;
+    }
+    Ok(words)
 }
 
 fn lend<'a>(rt: &HostRuntime, words: &'a Vec<String>) -> Result<Vec<&'a str>, AllocError> {

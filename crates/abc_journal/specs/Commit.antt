@@ -40,7 +40,7 @@ abbrev pub and_then : Result Layout Full → (Layout → Result Layout Full) →
 and_then (Ok layout) next = next layout
 and_then (Err full) next = Err full
 
--- a checkpoint is due: the live region grew by the bound and by four times its first payload
+-- a checkpoint is due: the live region, its first payload included, is as long as the bound and four times that payload
 abbrev pub is_due : Bounds → Layout → Bool
 is_due bounds layout = nat_le (bounds.checkpoint + 4 * layout.first) (layout.gate - layout.start)
 

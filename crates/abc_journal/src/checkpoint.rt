@@ -9,7 +9,7 @@ ghost use Rattle.abc_journal.specs.Checkpoint.{other_place as place_of_other, cl
 ghost use Rattle.abc_journal.specs.inner.Steps.{other_closed, IsPlace, IsStaged, MayBeCut};
 
 use crate::Layout;
-use crate::format::{HEAD_BYTES, OPEN, RECORD_EXTRA, VERSION};
+use crate::format::{GATE_BYTES, HEAD_BYTES, OPEN, RECORD_EXTRA, VERSION};
 use crate::slots::{other_place, slot_bytes};
 use crate::write::write_through;
 use abc_outside::{Failed, Host};
@@ -129,7 +129,7 @@ pub(crate) fn publish<H: Host>(
     ensures faultless { OnOk result ((H.now host.new).store_faults ≡ (H.now host.old).store_faults) }
 {
     write_through(host, other_place(layout.slot), &[VERSION])?;
-    let end = place + (RECORD_EXTRA + 1) as u64 + payload.len() as u64;
+    let end = place + (RECORD_EXTRA + GATE_BYTES) as u64 + payload.len() as u64;
     cut_behind(host, place, end)?;
     Ok(())
 }

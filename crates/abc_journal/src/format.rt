@@ -21,7 +21,10 @@ pub const OPEN: u8 = 1;
 /// The gate of a slot is the version of its region: a slot with another byte is closed.
 pub const VERSION: u8 = 1;
 
-/// A record is a gate, the length of its payload in eight bytes, and the payload.
+/// A gate is one byte.
+pub const GATE_BYTES: usize = 1;
+
+/// What a record has in front of its payload: its gate, and the length in eight bytes.
 pub const RECORD_EXTRA: usize = 9;
 
 /// The fresh store: slot 0 open with generation 1 and start 64, and a closed gate at 64.

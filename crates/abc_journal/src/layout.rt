@@ -4,7 +4,7 @@ ghost use Rattle.abc_journal.specs.Journal.{need_of, after_record};
 ghost use Rattle.abc_journal.specs.Checkpoint.{room_for as room_of, behind_need as need_behind, after_checkpoint};
 ghost use Rattle.abc_journal.specs.inner.Steps.{other_closed};
 
-use crate::format::{HEAD_BYTES, RECORD_EXTRA};
+use crate::format::{GATE_BYTES, HEAD_BYTES, RECORD_EXTRA};
 
 /// Where the live region of a store stands.
 #[derive(Clone, Copy, Debug, PartialEq, Eq)]
@@ -30,7 +30,9 @@ impl Layout {
     pub(crate) fn need(&self, payload: usize) -> u128
         ensures { result ≡ need_of self.now payload }
     {
-        (self.size as u128).max(self.gate as u128 + (RECORD_EXTRA + 1) as u128 + payload as u128)
+        (self.size as u128).max(
+            self.gate as u128 + (RECORD_EXTRA + GATE_BYTES) as u128 + payload as u128,
+        )
     }
 
     /// The layout with this record.
@@ -56,7 +58,8 @@ impl Layout {
     pub(crate) fn behind_need(&self, payload: usize) -> u128
         ensures { result ≡ need_behind self.now payload }
     {
-        self.gate as u128 + (RECORD_EXTRA + 2) as u128 + payload as u128
+        // The closing gate stays; behind it come a record and its closing gate.
+        self.gate as u128 + (RECORD_EXTRA + 2 * GATE_BYTES) as u128 + payload as u128
     }
 
     /// Where the region of a checkpoint goes whose payload has so many bytes: to the front where it ends
@@ -67,11 +70,13 @@ impl Layout {
         if self.generation == u64::MAX {
             return None;
         }
-        if (HEAD_BYTES + RECORD_EXTRA + 1) as u128 + payload as u128 <= self.start as u128 {
+        if (HEAD_BYTES + RECORD_EXTRA + GATE_BYTES) as u128 + payload as u128
+            <= self.start as u128
+        {
             return Some(HEAD_BYTES as u64);
         }
         if self.behind_need(payload) <= bound as u128 {
-            return Some(self.gate + 1);
+            return Some(self.gate + GATE_BYTES as u64);
         }
         None
     }
@@ -92,7 +97,7 @@ impl Layout {
         requires rises { self.now.generation + 1 < 2 ^ 64 }
         ensures { result ≡ after_checkpoint self.now place payload }
     {
-        let end = place + (RECORD_EXTRA + 1) as u64 + payload as u64;
+        let end = place + (RECORD_EXTRA + GATE_BYTES) as u64 + payload as u64;
         let generation = self.generation + 1;
         Layout {
             size: if place == HEAD_BYTES as u64 {
@@ -117,7 +122,8 @@ pub struct Bounds {
     pub input: u64,
     /// No record makes the image longer than this.
     pub image: u64,
-    /// A live region that grew by this, and by four times its first payload, calls for a checkpoint.
+    /// A checkpoint is due where the live region is as long as this and four times its first payload, which is
+    /// counted if a checkpoint wrote it.
     pub checkpoint: u64,
 }
 

@@ -50,7 +50,8 @@ pub trait Host {
     /// is standard input. A store that is not there is made empty.
     ///
     /// Errors: [`ChooseFault::Input`] only where an input is named and it could not be opened;
-    /// [`ChooseFault::Store`] where the store could not. Then what was chosen before stays.
+    /// [`ChooseFault::Store`] where the store could not, or where store, input and output can't be used
+    /// together. Then what was chosen before stays.
     fn choose(&mut self, store: &str, input: Option<&str>) -> Result<(), ChooseFault>
         ensures chosen { tells_chosen → OnOk result ((now self.new).chosen ≡ (now self.old).chosen ++ (store.now, option_map (λ name. name.now) input.entry) ∷ []) }
         ensures taken { OnOk result ((now self.new).taken ≡ 0) }

@@ -13,9 +13,10 @@ use std::os::unix::fs::FileExt;
 /// It tells nothing of what stands in them. What it keeps for its contracts are its counts of faults,
 /// each of which rises at an Err and stays at 2^64 - 1, and the count of the bytes taken.
 ///
-/// No other run opens the store while this host has it, and no store is opened that this run reads as its
-/// input or writes as its output. A read or a `say` waits until the stream is ready, also where whoever
-/// started the run asked for no wait.
+/// No other run of this program opens the store while this host has it: the lock is one that other programs
+/// need not ask for. Store, input and output are three files: where two of them are one, `choose` answers
+/// [`ChooseFault::Store`]. Only input and output may be one, where they are no regular file: a terminal, say.
+/// A read or a `say` waits until the stream is ready, also where whoever started the run asked for no wait.
 #[derive(Drop)]
 pub struct RealHost {
     rt: HostRuntime,
@@ -48,7 +49,7 @@ impl RealHost {
     }
 }
 
-fn size_of(store: &Option<File>) -> io::Result<u64> {
+fn store_size(store: &Option<File>) -> io::Result<u64> {
     let file = store.as_ref().ok_or(io::ErrorKind::NotFound)?;
     Ok(file.metadata()?.len())
 }
@@ -149,7 +150,7 @@ impl Host for RealHost {
     }
 
     fn size(&mut self) -> Result<u64, Failed> {
-        counted(size_of(&self.store), &mut self.store_faults)
+        counted(store_size(&self.store), &mut self.store_faults)
     }
 
     fn read_at(&mut self, at: u64, buf: &mut [u8]) -> Result<(), Failed> {
