@@ -20,7 +20,7 @@ use abc_unify::UnifyFault;
 use std::alloc::Global;
 
 /// The checker of a workspace: what is known of its units. The values of targets come with each check, so nothing is to be kept
-/// up to date when they change. A check costs what the values of all targets and what is checked cost, but no walk over the units.
+/// up to date when they change. A check costs the types of all targets and what is checked, but no walk over the units or the values.
 #[derive(Drop)]
 pub enum Checker {
     Typable(UnitTypes),

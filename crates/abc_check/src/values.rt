@@ -1,5 +1,5 @@
-//! What the values of targets ask of the types of targets. A value is asked for by its shape, which is made by a walk over the
-//! value: so the cost is that of all values, while the graph gets no more than their shapes.
+//! What the values of targets ask of the types of targets. A value is asked for by its shape, which lists and tables keep: so the
+//! cost is the size of the types of all targets, and no value is gone through.
 ghost use Rattle.std.specs.Prelude.{◌≡◌, ◌∷◌, ◌++◌, [], ℕ, List, Some, Err, OnOk};
 ghost use Rattle.abc_num.specs.declared.types.Ground.{Ground};
 ghost use Rattle.abc_terms.specs.declared.term.VarId.{VarId as TheVar};

@@ -1,5 +1,5 @@
 //! The machine: what is pending of a run, and one step of it.
-ghost use Rattle.std.specs.Prelude.{◌≡◌, ◌≤◌, ◌+◌, ◌-◌, ◌<◌, ◌⊎◌, ℕ, Bool, true, List, [], IfOk, IsErrOf, IsNone, map};
+ghost use Rattle.std.specs.Prelude.{◌≡◌, ◌≤◌, ◌+◌, ◌-◌, ◌<◌, ◌⊎◌, ℕ, Bool, true, List, [], Ok, IfOk, IsErrOf, IsNone, map};
 ghost use Rattle.abc_num.specs.declared.limits.TheConstants.{MOST_DEPTH};
 ghost use Rattle.abc_num.specs.declared.lines.RawLine.{RawLine};
 ghost use Rattle.abc_tree.specs.declared.commands.Unit.{Unit as Routine};
@@ -79,6 +79,7 @@ impl<'a> Machine<'a> {
         ensures may_be { (input : L.Input) → L.may_be input lines.new → L.may_be input lines.old }
         ensures leads { (input : L.Input) → L.may_be input lines.new → Steps units.now result self.new (state_within self.new targets.new (L.unread input lines.new) budget) (pending units.now self.old (state_within self.old targets.old (L.unread input lines.old) budget)) }
         ensures busy { IfMore result (IsBusy self.new) }
+        ensures more { IsBusy self.new → result ≡ Ok Stepped.More }
         ensures of { IsOf units.now self.old → IfMore result (IsOf units.now self.new) }
         ensures steps { (self.old.steps ≤ self.new.steps) × (self.new.steps ≤ self.old.steps + 1) }
         ensures budget { self.old.steps ≤ budget → self.new.steps ≤ budget }
@@ -110,6 +111,7 @@ impl<'a> Machine<'a> {
         ensures may_be { (input : L.Input) → L.may_be input lines.new → L.may_be input lines.old }
         ensures leads { (input : L.Input) → L.may_be input lines.new → Steps units.now result self.new (state_with self.new.run targets.new (L.unread input lines.new)) (pending units.now self.old (state_with self.old.run targets.old (L.unread input lines.old))) }
         ensures busy { IfMore result (IsBusy self.new) }
+        ensures more { IsBusy self.new → result ≡ Ok Stepped.More }
         ensures of { IsOf units.now self.old → IfMore result (IsOf units.now self.new) }
         ensures steps { self.new.steps ≡ self.old.steps }
         ensures left { (self.new.run.left ≤ self.old.run.left) × (self.old.run.left ≤ self.new.run.left + 1) }

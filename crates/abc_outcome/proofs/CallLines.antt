@@ -1,5 +1,5 @@
 -- The line that the search by halves finds is the least line with a call that leads there.
-use Rattle.std.proofs.Common.{◌≡◌, ◌<◌, ◌≤◌, ◌+◌, ℕ, zero, suc, min, Bool, true, false, ◌&&◌, ◌||◌, nat_le, cond, List, [], ◌∷◌, map, filter, Contains, ◌↔◌, refl, sym, ap, subst, ◌∙◌, arith, leb-true, leb-false, le-leb}
+use Rattle.std.proofs.Common.{◌≡◌, ◌<◌, ◌≤◌, ◌+◌, ℕ, zero, suc, min, Bool, true, false, ◌&&◌, ◌||◌, nat_le, cond, List, [], ◌∷◌, map, filter, Option, Some, Contains, ◌↔◌, refl, sym, ap, subst, ◌∙◌, arith, leb-true, leb-false, le-leb}
 use Rattle.std.proofs.lemmas.Bool.{lt-leb}
 use Rattle.std.specs.List.{list_any}
 use Rattle.std.specs.Bool.{one_answer}
@@ -17,10 +17,12 @@ use Rattle.abc_tree.specs.declared.templates.Template.{Template}
 use Rattle.abc_groups.specs.Reach.{IsFrom}
 use Rattle.abc_groups.specs.Program.{LAST_LINE, called, texts}
 use Rattle.abc_groups.proofs.Texts.{one_text}
-use Rattle.abc_outcome.specs.Missing.{program, leads_to, lines_to, least_number, line_to}
+use Rattle.abc_outcome.specs.Laws.{LeadsFrom, IsLeastLine}
+use Rattle.abc_outcome.specs.Missing.{program, called_by, first_missing, leads_to, lines_to, least_number, line_to}
 use Rattle.abc_outcome.specs.inner.Lines.{is_reached, IsWithin}
-use Rattle.abc_outcome.proofs.Finding.{or_none, any_of, found_any}
-use Rattle.abc_outcome.proofs.Reached.{from_exactly}
+use Rattle.abc_outcome.proofs.Finding.{or_none, and_both, and_first, and_second, any_of, found_any}
+use Rattle.abc_outcome.proofs.Firsts.{computed_first}
+use Rattle.abc_outcome.proofs.Reached.{from_exactly, leads_exactly}
 
 or_swap : (a b c : Bool) → (a || (b || c)) ≡ (b || (a || c))
 or_swap true true c = refl
@@ -135,3 +137,43 @@ reached_among units c t n all exact =
 pub reached_to : (units : List Routine) (c : Command) (t : List ℕ) → IsFrom (called (program units)) (texts (command_called_upto LAST_LINE c)) t → is_reached units c t LAST_LINE ≡ true
 unfolding is_reached
 reached_to units c t is = (from_exactly units (texts (command_called_upto LAST_LINE c)) t).1 is
+
+-- ---- the line that is told
+
+-- a call that leads there stands on one of the lines
+on_line : (units : List Routine) (c : Command) (t : List ℕ) (n : ℕ) → LeadsFrom units c t n → list_any (λ line. nat_le line n) (lines_to units t (calls_in_action c.action)) ≡ true
+on_line units c t n (s, there, leads) =
+    any_line (leads_to units t) n (calls_in_action c.action)
+    ∙ any_of (λ call. nat_le call.0 n && leads_to units t (template_text call.1)) (calls_in_action c.action) (n, s) there
+    (and_both (nat_le n n) (leads_to units t (template_text s)) (le-leb n n (omega arith)) ((leads_exactly units (template_text s) t).1 leads))
+
+-- and where one of the lines is no later than another, so is such a call
+call_upto : (units : List Routine) (c : Command) (t : List ℕ) (n : ℕ) → list_any (λ line. nat_le line n) (lines_to units t (calls_in_action c.action)) ≡ true
+    → (m : ℕ) × (m ≤ n) × LeadsFrom units c t m
+call_upto units c t n e =
+    let r = found_any (λ call. nat_le call.0 n && leads_to units t (template_text call.1)) (calls_in_action c.action) (sym (any_line (leads_to units t) n (calls_in_action c.action)) ∙ e) in
+    let line = r.0.0 in
+    let leads = leads_to units t (template_text r.0.1) in
+    (line, leb-true line n (and_first (nat_le line n) leads r.2), (r.0.1, r.1, (leads_exactly units (template_text r.0.1) t).0 (and_second (nat_le line n) leads r.2)))
+
+one_number : (a b : ℕ) → a ≤ b → b ≤ a → a ≡ b
+one_number a b p q = omega (arith, p, q)
+
+pub line_is_least : (units : List Routine) (c : Command) (t : List ℕ) → first_missing units (called_by c) ≡ Some t → IsLeastLine units c t (line_to units t c)
+unfolding line_to
+line_is_least units c t first =
+    by_list (lines_to units t (calls_in_action c.action)) (on_line units c t) (call_upto units c t)
+    (sym (reached_lines units c t LAST_LINE) ∙ reached_to units c t (computed_first units (called_by c) t first).reached)
+  where
+    by_list : (ls : List ℕ) → ((n : ℕ) → LeadsFrom units c t n → list_any (λ line. nat_le line n) ls ≡ true)
+        → ((n : ℕ) → list_any (λ line. nat_le line n) ls ≡ true → (m : ℕ) × (m ≤ n) × LeadsFrom units c t m)
+        → list_any (λ line. nat_le line LAST_LINE) ls ≡ true → IsLeastLine units c t (least_number ls)
+    by_list [] on upto some = absurd cc
+    by_list (l ∷ ls) on upto some =
+        let m = least_number (l ∷ ls) in
+        let low : (n : ℕ) → LeadsFrom units c t n → m ≤ n = λ n leads. leb-true m n (sym (any_least l ls n) ∙ on n leads) in
+        let there = upto m (any_least l ls m ∙ le-leb m m (omega arith)) in
+        record {
+          leads = subst (LeadsFrom units c t) (one_number there.0 m there.1 (low there.0 there.2)) there.2;
+          least = low;
+        }

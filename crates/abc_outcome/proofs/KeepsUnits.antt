@@ -1,6 +1,6 @@
 -- A command leaves the units as they are.
-use Rattle.std.proofs.Common.{◌≡◌, ℕ, Bool, true, false, List, [], ◌∷◌, length, nat_lt, Result, Ok, Err, if◌then◌else◌, refl, sym, subst}
-use Rattle.std.specs.Prelude.{IfOk, OnOk, Option}
+use Rattle.std.proofs.Common.{◌≡◌, ◌⊎◌, inl, inr, ℕ, Bool, true, false, List, [], ◌∷◌, length, nat_lt, Result, Ok, Err, if◌then◌else◌, refl, sym, subst}
+use Rattle.std.specs.Prelude.{IfOk, OnOk, IsErrOf, Option}
 use Rattle.std.specs.List.{list_all}
 use Rattle.abc_num.specs.declared.limits.TheConstants.{MOST_TARGETS, MOST_RECORD_BYTES}
 use Rattle.abc_num.specs.declared.lines.RawLine.{RawLine}
@@ -18,8 +18,10 @@ use Rattle.abc_record.specs.Spelling.{spelled}
 use Rattle.abc_check.specs.declared.checker.Checker.{Checker}
 use Rattle.abc_store.specs.Workspace.{Workspace, changes_between, with_targets}
 use Rattle.abc_store.specs.Commit.{Work, Refusal, too_large, store_full, kept_in, stored}
+use Rattle.abc_store.specs.View.{View}
 use Rattle.abc_outcome.specs.declared.answering.Answer.{Answer}
 use Rattle.abc_outcome.specs.declared.answering.AnswerFault.{AnswerFault}
+use Rattle.abc_outcome.specs.declared.answering.AnswerFault.TheVariants as stops
 use Rattle.abc_outcome.specs.Answers.{told}
 use Rattle.abc_outcome.specs.Checks.{IsUpToDate}
 use Rattle.abc_outcome.specs.Outcome.{Outcome, Ending, on_stored, stored_if_spelled, kept_outcome, on_stop, on_end}
@@ -77,7 +79,12 @@ module _ (bounds : Bounds) (k : ℕ) (work : Work) where
   answer_keeps left output targets end after (Ok answer) is = subst (KeepsUnits work) is (end_keeps left output targets end)
   answer_keeps left output targets end after (Err fault) is = tt
 
--- the checker of the units before is that of those after it
-pub still : (checker : Option Checker) (before after : List Routine) (result : Result Answer AnswerFault) → OnOk result (after ≡ before) → IsUpToDate checker before → OnOk result (IsUpToDate checker after)
-still checker before after (Ok answer) same is = subst (IsUpToDate checker) (sym same) is
-still checker before after (Err fault) same is = tt
+-- the checker of the units before is that of those after it, but where a call on the store failed
+pub still : (checker : Option Checker) (before after : View) (result : Result Answer AnswerFault) → OnOk result (after.kept.units ≡ before.kept.units)
+    → (IsErrOf result stops.Memory ⊎ (IsErrOf result stops.Input ⊎ IsErrOf result stops.Long) → after ≡ before) → IsUpToDate checker before.kept.units
+    → ¬ (IsErrOf result stops.StoreFault) → IsUpToDate checker after.kept.units
+still checker before after (Ok answer) units same is other = subst (IsUpToDate checker) (sym units) is
+still checker before after (Err stops.Memory) units same is other = subst (λ (v : View). IsUpToDate checker v.kept.units) (sym (same (inl refl))) is
+still checker before after (Err stops.Input) units same is other = subst (λ (v : View). IsUpToDate checker v.kept.units) (sym (same (inr (inl refl)))) is
+still checker before after (Err stops.Long) units same is other = subst (λ (v : View). IsUpToDate checker v.kept.units) (sym (same (inr (inr refl)))) is
+still checker before after (Err stops.StoreFault) units same is other = absurd (other refl)

@@ -1,13 +1,15 @@
 -- What holds of what comes of items.
 use Rattle.std.specs.Prelude.{◌≡◌, ◌⊎◌, ◌<◌, ◌≤◌, ℕ, Bool, true, false, List, ◌++◌, Option, Some, None, length}
-use Rattle.std.specs.List.{AllByRecursion}
+use Rattle.std.specs.List.{AllByRecursion, Contains}
 use Rattle.std.specs.Map.{keys_of}
 use Rattle.abc_num.specs.declared.lines.Line.{Line}
 use Rattle.abc_num.specs.declared.lines.RawLine.{RawLine}
 use Rattle.abc_journal.specs.declared.layout.Bounds.{Bounds}
+use Rattle.abc_tree.specs.Calls.{calls_in_action}
 use Rattle.abc_tree.specs.declared.commands.Command.{Command}
 use Rattle.abc_tree.specs.declared.commands.Unit.{Unit as Routine}
 use Rattle.abc_tree.specs.Templates.{template_text}
+use Rattle.abc_tree.specs.declared.templates.Template.{Template}
 use Rattle.abc_tree.specs.declared.commands.Item.{Item}
 use Rattle.abc_tree.specs.declared.commands.Item.TheVariants as item
 use Rattle.abc_tree.specs.Units.{AreRising as AreInOrder}
@@ -15,12 +17,13 @@ use Rattle.abc_frames.specs.Maps.{AreRegular}
 use Rattle.abc_meaning.specs.Regular.{IsShort}
 use Rattle.abc_sound.specs.Checked.{IsNeverWrong}
 use Rattle.abc_parse.specs.Readings.{item_of}
-use Rattle.abc_groups.specs.Program.{IsFirstMissing, NoneIsMissing, LAST_LINE}
+use Rattle.abc_groups.specs.Program.{IsFirstMissing, NoneIsMissing, called, LAST_LINE}
+use Rattle.abc_groups.specs.Reach.{Leads}
 use Rattle.abc_turns.specs.Session.{came, wants}
 use Rattle.abc_store.specs.Commit.{Work}
 use Rattle.abc_store.specs.Workspace.{Workspace, AreKeptUnits, IsWellTyped, with_targets}
 use Rattle.abc_outcome.specs.Checks.{Check, IsExact, IsTypeLineOf, TakesCommand, TakesUnit}
-use Rattle.abc_outcome.specs.Missing.{program, first_missing, called_by}
+use Rattle.abc_outcome.specs.Missing.{program, first_missing, called_by, line_to}
 use Rattle.abc_outcome.specs.Reply.{ok_line, unit_line, said}
 use Rattle.abc_outcome.specs.Outcome.{Behind, Outcome, outcome, run_of}
 
@@ -74,6 +77,19 @@ LeastIsMissing = (units : List Routine) (from : List (List ℕ)) (t : List ℕ) 
 
 abbrev pub NoneIsLeft : Type 0
 NoneIsLeft = (units : List Routine) (from : List (List ℕ)) → first_missing units from ≡ None → NoneIsMissing (program units) from
+
+-- on this line a command calls the template, or one from which calls lead to it
+abbrev pub LeadsFrom : List Routine → Command → List ℕ → ℕ → Type 0
+LeadsFrom units c t line = (s : Template) × Contains (calls_in_action c.action) (line, s) × Leads (called (program units)) (template_text s) t
+
+-- this is the least such line
+pub record IsLeastLine (units : List Routine) (c : Command) (t : List ℕ) (line : ℕ) : Type 0 where
+  pub leads : LeadsFrom units c t line
+  pub least : (n : ℕ) → LeadsFrom units c t n → line ≤ n
+
+-- the line that is told of a missing template is the least one from which calls lead to it
+abbrev pub LeastLineIsTold : Type 0
+LeastLineIsTold = (units : List Routine) (c : Command) (t : List ℕ) → first_missing units (called_by c) ≡ Some t → IsLeastLine units c t (line_to units t c)
 
 -- an item has one type line at most: whatever is told of it, it comes to the same
 abbrev pub TypeLinesAreOne : Type 0

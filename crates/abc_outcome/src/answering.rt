@@ -1,5 +1,5 @@
 //! The answer to one item.
-ghost use Rattle.std.specs.Prelude.{◌≡◌, ◌<◌, ◌⊎◌, ℕ, [], true, length, Option, IfOk, OnOk, IsErrOf, IsTrue};
+ghost use Rattle.std.specs.Prelude.{◌≡◌, ◌<◌, ◌⊎◌, ℕ, [], true, length, Option, IfOk, IsErrOf, IsTrue};
 ghost use Rattle.std.specs.List.{AllByRecursion};
 ghost use Rattle.abc_outline.specs.Rows.{IsShort};
 ghost use Rattle.abc_parse.specs.RegularTemplates.{HasRegularTemplates};
@@ -75,7 +75,7 @@ fn answer_parsed<H: Host>(
         → Answers H.tells_image H.tells_input H.tells_said H.now H.clock H.stopped store.old store.new reader.old reader.new host.old host.new result out }
     ensures answered { IsAnswered H.tells_image H.tells_input H.tells_said H.now H.clock H.stopped store.old store.new reader.old reader.new host.old host.new result }
     ensures told { HasTypeLine store.old.kept parsed ⊎ (IsErrOf result AnswerFault.Memory × NothingDone store.old store.new reader.old reader.new host.old host.new) }
-    ensures up_to_date { OnOk result (IsUpToDate checker.new store.new.kept.units) }
+    ensures up_to_date { ¬ (IsErrOf result AnswerFault.StoreFault) → IsUpToDate checker.new store.new.kept.units }
 {
     match parsed {
         Ok(Item::Command(command)) => {
@@ -104,7 +104,8 @@ fn answer_parsed<H: Host>(
 ///
 /// Errors: `StoreFault` where a call of the host on the store failed; then the store isn't sound any more, and its image opens to
 /// the workspace before the item or after it. `Input` where a read failed, and `Long` where as many bytes as the bound were taken,
-/// each while the item wants a line; and `Memory`: they change nothing in the store, and the reader isn't used again then.
+/// each while the item wants a line; and `Memory`: they change nothing in the store, and the reader isn't used again then. After
+/// every answer but `StoreFault` the checker knows the units of the store.
 pub fn answer_item<H: Host>(
     alloc: Global,
     store: &mut Store,
@@ -127,7 +128,7 @@ pub fn answer_item<H: Host>(
         (outcome line store.old.bounds steps k (work_of store.old) item.now) }
     ensures told { ((line : Option ℕ) × IsTypeLineOf store.old.kept item.now line) ⊎ (IsErrOf result AnswerFault.Memory × NothingDone store.old store.new reader.old reader.new host.old host.new) }
     ensures keeps { Keeps H.tells_image H.tells_input H.tells_said H.now H.clock H.stopped store.old store.new reader.old reader.new host.old host.new result }
-    ensures up_to_date { OnOk result (IsUpToDate checker.new store.new.kept.units) }
+    ensures up_to_date { ¬ (IsErrOf result AnswerFault.StoreFault) → IsUpToDate checker.new store.new.kept.units }
 {
     reader.is_reader();
     let names = match store.targets().names() {

@@ -249,7 +249,7 @@ pub(crate) fn answer_command<H: Host>(
         (λ behind. command_outcome line store.old.bounds steps k (work_of store.old) behind command.now) }
     ensures told { ((line : Option ℕ) × TellsOf store.old.kept (Some (item.Command command.now)) line) ⊎ (IsErrOf result AnswerFault.Memory × NothingDone store.old store.new reader.old reader.new host.old host.new) }
     ensures answered { IsAnswered H.tells_image H.tells_input H.tells_said H.now H.clock H.stopped store.old store.new reader.old reader.new host.old host.new result }
-    ensures up_to_date { OnOk result (IsUpToDate checker.new store.new.kept.units) }
+    ensures up_to_date { ¬ (IsErrOf result AnswerFault.StoreFault) → IsUpToDate checker.new store.new.kept.units }
 {
     match hindered(alloc, store, checker, command, k) {
         Ok(None) => {

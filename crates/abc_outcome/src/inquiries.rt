@@ -1,5 +1,5 @@
 //! The answer to a line that asks about the workspace.
-ghost use Rattle.std.specs.Prelude.{◌≡◌, ◌∷◌, [], IfOk, OnOk, IsTrue};
+ghost use Rattle.std.specs.Prelude.{◌≡◌, ◌∷◌, [], IfOk, IsErrOf, IsTrue};
 ghost use Rattle.abc_inquiry.specs.Laws.{CanBeSpelled};
 ghost use Rattle.abc_record.specs.declared.change.Change.TheVariants.{DropUnit};
 ghost use Rattle.abc_record.specs.Kept.{IsKeptText};
@@ -44,9 +44,10 @@ fn drop_unit<H: Host>(
     requires sound { IsTrue store.old.sound }
     requires holds { H.tells_image → Holds (H.now host.old).image (work_of store.old) }
     requires spelled { IsKeptText template }
+    requires up_to_date { IsUpToDate checker.old store.old.kept.units }
     ensures settles { (behind : Behind) → Settles H.tells_image H.now H.clock H.stopped store.old store.new host.old host.new result behind.lines
         (drop_outcome store.old.bounds k (work_of store.old) behind.lines template) }
-    ensures up_to_date { OnOk result (IsUpToDate checker.new store.new.kept.units) }
+    ensures up_to_date { ¬ (IsErrOf result AnswerFault.StoreFault) → IsUpToDate checker.new store.new.kept.units }
 {
     let _there = store.targets();
     let _units = store.units();
@@ -91,7 +92,7 @@ fn answer_found<H: Host>(
     requires up_to_date { IsUpToDate checker.old store.old.kept.units }
     ensures settles { (behind : Behind) → Settles H.tells_image H.now H.clock H.stopped store.old store.new host.old host.new result behind.lines
         (on_inquiry store.old.bounds k (work_of store.old) behind.lines found) }
-    ensures up_to_date { OnOk result (IsUpToDate checker.new store.new.kept.units) }
+    ensures up_to_date { ¬ (IsErrOf result AnswerFault.StoreFault) → IsUpToDate checker.new store.new.kept.units }
 {
     match found {
         Answered::Shows(output) => showing(alloc, k, output.into_vec()),
@@ -117,7 +118,7 @@ pub(crate) fn answer_inquiry<H: Host>(
     requires up_to_date { IsUpToDate checker.old store.old.kept.units }
     ensures settles { (behind : Behind) → Settles H.tells_image H.now H.clock H.stopped store.old store.new host.old host.new result behind.lines
         (inquiry_outcome store.old.bounds k (work_of store.old) behind asked.now) }
-    ensures up_to_date { OnOk result (IsUpToDate checker.new store.new.kept.units) }
+    ensures up_to_date { ¬ (IsErrOf result AnswerFault.StoreFault) → IsUpToDate checker.new store.new.kept.units }
 {
     match answer_environment(alloc, store, asked) {
         Ok(found) => answer_found(alloc, store, checker, host, found, k),

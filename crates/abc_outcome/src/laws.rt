@@ -1,5 +1,5 @@
 //! What holds of what comes of items.
-ghost use Rattle.abc_outcome.specs.Laws.{AnExactCheckIsThere, CameStays, ComesAtEnd, LeavesNoMore, NoReplyIsEmpty, RefusalsChangeNothing, LeastIsMissing, NoneIsLeft, TypeLinesAreOne, AcceptedIsNeverWrong};
+ghost use Rattle.abc_outcome.specs.Laws.{AnExactCheckIsThere, CameStays, ComesAtEnd, LeavesNoMore, NoReplyIsEmpty, RefusalsChangeNothing, LeastIsMissing, LeastLineIsTold, NoneIsLeft, TypeLinesAreOne, AcceptedIsNeverWrong};
 
 use abc_assured::session_items;
 use abc_parse::{numbered_items, regular_items};
@@ -24,9 +24,11 @@ pub fn refusals_change_nothing()
     ensures { RefusalsChangeNothing }
 {}
 
-/// The missing unit that is told is the least one that is reached; where none is told, none is missing.
+/// The missing unit that is told is the least one that is reached, and its line the least one with a call of it or of a unit that
+/// leads to it; where none is told, none is missing.
 pub fn missing_is_least()
     ensures some { LeastIsMissing }
+    ensures line { LeastLineIsTold }
     ensures none { NoneIsLeft }
 {}
 

@@ -1,5 +1,5 @@
 //! The answer to a unit.
-ghost use Rattle.std.specs.Prelude.{◌≡◌, ◌≤◌, ◌⊎◌, ◌∷◌, [], ℕ, length, Option, Some, IfOk, OnOk, IsErrOf, IsTrue};
+ghost use Rattle.std.specs.Prelude.{◌≡◌, ◌≤◌, ◌⊎◌, ◌∷◌, [], ℕ, length, Option, Some, IfOk, IsErrOf, IsTrue};
 ghost use Rattle.abc_record.specs.declared.change.Change.TheVariants.{SetUnit};
 ghost use Rattle.abc_store.specs.Commit.{Holds};
 ghost use Rattle.abc_store.specs.View.{work_of};
@@ -105,7 +105,7 @@ pub(crate) fn answer_unit<H: Host>(
         (unit_outcome line store.old.bounds k (work_of store.old) behind unit) }
     ensures told { ((line : Option ℕ) × TellsTypeLine (TakesUnit store.old.kept unit) (length unit.lines) line) ⊎ (IsErrOf result AnswerFault.Memory × (store.new ≡ store.old) × (host.new ≡ host.old)) }
     ensures settles { (behind : Behind) → (out : Outcome) × Settles H.tells_image H.now H.clock H.stopped store.old store.new host.old host.new result behind.lines out }
-    ensures up_to_date { OnOk result (IsUpToDate checker.new store.new.kept.units) }
+    ensures up_to_date { ¬ (IsErrOf result AnswerFault.StoreFault) → IsUpToDate checker.new store.new.kept.units }
 {
     match unit_type_line(alloc, store, &unit) {
         Ok(None) => {

@@ -1,5 +1,5 @@
 //! The serving of one item.
-ghost use Rattle.std.specs.Prelude.{◌≡◌, ◌≤◌, ◌<◌, ◌⊎◌, ◌+◌, ◌-◌, ◌^◌, List, ℕ, Option, true, false, length, IfOk, OnOk, IsOk, IsErrOf, IsTrue};
+ghost use Rattle.std.specs.Prelude.{◌≡◌, ◌≤◌, ◌<◌, ◌⊎◌, ◌+◌, ◌-◌, ◌^◌, List, ℕ, Option, true, false, length, IfOk, OnOk, OnErr, IsErrOf, IsTrue};
 ghost use Rattle.std.specs.List.{AllByRecursion};
 ghost use Rattle.abc_num.specs.declared.limits.TheConstants.{MOST_LINE_BYTES};
 ghost use Rattle.abc_outside.specs.Outside.{RoseByOne, IsFaultless};
@@ -51,6 +51,7 @@ fn stop_of_answer(fault: AnswerFault) -> ServeStop
     ensures input { result ≡ ServeStop.Input → fault ≡ AnswerFault.Input }
     ensures long { result ≡ ServeStop.Long → fault ≡ AnswerFault.Long }
     ensures store_fault { result ≡ ServeStop.StoreFault → fault ≡ AnswerFault.StoreFault }
+    ensures failed { fault ≡ AnswerFault.StoreFault → result ≡ ServeStop.StoreFault }
     ensures memory { result ≡ ServeStop.Memory → fault ≡ AnswerFault.Memory }
     ensures starved { fault ≡ AnswerFault.Memory → result ≡ ServeStop.Memory }
     ensures not_sink { result ≡ ServeStop.SinkFault → ⊥ }
@@ -67,7 +68,8 @@ fn stop_of_answer(fault: AnswerFault) -> ServeStop
 /// is kept, and then its reply is said and counted. A session hands the checker of the units and the tally of its replies from
 /// item to item.
 ///
-/// Errors: those of `answer_item`, and `SinkFault` where the reply could not be said whole.
+/// Errors: those of `answer_item`, and `SinkFault` where the reply could not be said whole; then it is not counted. After each but
+/// `StoreFault` the image holds the store, and the checker knows its units, so that items may be served again.
 pub fn serve_item<H: Host>(
     alloc: Global,
     store: &mut Store,
@@ -90,6 +92,7 @@ pub fn serve_item<H: Host>(
     ensures served { (line : Option ℕ) → IsTypeLineOf store.old.kept item.now line → H.tells_input → IfOk result (λ done. WasServed (outcome line store.old.bounds steps k (work_of store.old) item.now) H.tells_said
         (place_at k (work_of store.old) reader.old (H.now host.old)) (place_at k (work_of store.new) reader.new (H.now host.new)) tally.old tally.new done.quit) }
     ensures counted { OnOk result (tally.new.items ≡ tally.old.items + 1) }
+    ensures uncounted { OnErr result (tally.new ≡ tally.old) }
     ensures told { ((line : Option ℕ) × IsTypeLineOf store.old.kept item.now line) ⊎ (IsErrOf result ServeStop.Memory × NothingDone store.old store.new reader.old reader.new host.old host.new) }
     ensures cut { (line : Option ℕ) → IsTypeLineOf store.old.kept item.now line → H.tells_said → H.tells_input → IsErrOf result ServeStop.SinkFault → WasCut (outcome line store.old.bounds steps k (work_of store.old) item.now)
         (place_at k (work_of store.old) reader.old (H.now host.old)) (place_at k (work_of store.new) reader.new (H.now host.new)) }
@@ -106,13 +109,13 @@ pub fn serve_item<H: Host>(
     ensures stop_faultless { (IsErrOf result ServeStop.Memory ⊎ IsErrOf result ServeStop.Long) → IsFaultless (H.now host.old) (H.now host.new) }
     ensures long { IsErrOf result ServeStop.Long → reader.new.taken ≡ reader.new.bound }
 
-    ensures holds { H.tells_image → (IsOk result ⊎ IsErrOf result ServeStop.SinkFault) → Holds (H.now host.new).image (work_of store.new) }
+    ensures holds { H.tells_image → ¬ (IsErrOf result ServeStop.StoreFault) → Holds (H.now host.new).image (work_of store.new) }
     ensures bounds { store.new.bounds ≡ store.old.bounds }
-    ensures sound { OnOk result (IsTrue store.new.sound) }
-    ensures still_sound { IsErrOf result ServeStop.SinkFault → IsTrue store.new.sound }
+    ensures sound { ¬ (IsErrOf result ServeStop.StoreFault) → IsTrue store.new.sound }
     ensures unsound { IsErrOf result ServeStop.StoreFault → store.new.sound ≡ false }
     ensures same { (IsErrOf result ServeStop.Memory ⊎ IsErrOf result ServeStop.Input ⊎ IsErrOf result ServeStop.Long) → store.new ≡ store.old }
-    ensures up_to_date { OnOk result (IsUpToDate checker.new store.new.kept.units) }
+    ensures same_image { (IsErrOf result ServeStop.Memory ⊎ IsErrOf result ServeStop.Input ⊎ IsErrOf result ServeStop.Long) → (H.now host.new).image ≡ (H.now host.old).image }
+    ensures up_to_date { ¬ (IsErrOf result ServeStop.StoreFault) → IsUpToDate checker.new store.new.kept.units }
     ensures chosen { (H.now host.new).chosen ≡ (H.now host.old).chosen }
     ensures none_fell { NoneFell (H.now host.old) (H.now host.new) }
 
@@ -129,7 +132,7 @@ pub fn serve_item<H: Host>(
         → Leaves H.clock H.stopped host.old host.new
         (IsItemStop (work_of store.old) (outcome line store.old.bounds steps k (work_of store.old) item.now (behind_at reader.old (H.now host.old).left)) (H.now host.old).said) }
     ensures quiet { H.tells_image → IsQuiet H.clock H.stopped host.old (H.now host.old).image
-        → (IsOk result ⊎ IsErrOf result ServeStop.SinkFault) → IsQuiet H.clock H.stopped host.new (H.now host.new).image }
+        → ¬ (IsErrOf result ServeStop.StoreFault) → IsQuiet H.clock H.stopped host.new (H.now host.new).image }
     ensures idle { (IsErrOf result ServeStop.Memory ⊎ IsErrOf result ServeStop.Input ⊎ IsErrOf result ServeStop.Long)
         → (c s : List ℕ) → Now H.clock H.stopped host.new c s → Now H.clock H.stopped host.old c s }
 {

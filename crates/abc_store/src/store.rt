@@ -1,12 +1,12 @@
 //! The store: a workspace, and the journal that keeps it.
-ghost use Rattle.std.specs.Prelude.{◌≡◌, ◌⊎◌, ◌<◌, false, ℕ, length, IfOk, OnOk, IsErrOf, IsTrue, true, option_map, Ok, Err, Some};
+ghost use Rattle.std.specs.Prelude.{◌≡◌, ◌⊎◌, ◌<◌, [], false, ℕ, length, IfOk, OnOk, IsErrOf, IsTrue, true, option_map, Ok, Err, Some};
 ghost use Rattle.abc_outside.specs.Outside.{RoseByOne, KeepsButStore};
 ghost use Rattle.abc_outside.specs.Stop.{Leaves, IsQuiet};
 ghost use Rattle.abc_tree.specs.Units.{AreRising as AreInOrder};
 ghost use Rattle.abc_frames.specs.Maps.{AreRegular};
 ghost use Rattle.abc_num.specs.declared.limits.TheConstants.{MOST_UNITS};
 ghost use Rattle.abc_journal.specs.declared.format.TheConstants.{FRESH_BYTES};
-ghost use Rattle.abc_journal.specs.Image.{settled_image};
+ghost use Rattle.abc_journal.specs.Image.{fresh_image, settled_image};
 ghost use Rattle.abc_journal.specs.Journal.{BeginsQuiet, IfNotAStore, IsNotAStore};
 ghost use Rattle.abc_record.specs.Kept.{AreKept};
 ghost use Rattle.abc_store.specs.Workspace.{Workspace, changed_by, changes_between, with_targets, with_routine, unit_named, IsWithinLimits, IsWellTyped, AreNamed, AreKeptUnits};
@@ -83,6 +83,10 @@ impl Store {
             → Leaves H.clock H.stopped host.old host.new (H.stopped host.old (H.clock host.old)) }
         ensures unchanged { H.tells_image → (at : ℕ) → Opens (H.now host.old).image (Err at) → (H.now host.new).image ≡ (H.now host.old).image }
         ensures untouched { H.tells_image → (at : ℕ) → Opens (H.now host.old).image (Err at)
+            → Leaves H.clock H.stopped host.old host.new (H.stopped host.old (H.clock host.old)) }
+
+        // A fresh image is not written again.
+        ensures fresh { H.tells_image → (H.now host.old).image ≡ fresh_image
             → Leaves H.clock H.stopped host.old host.new (H.stopped host.old (H.clock host.old)) }
 
         // At every moment of the call, and at its end.
@@ -200,6 +204,7 @@ impl Store {
 
         ensures fault { IsErrOf result CommitFault.StoreFault → RoseByOne (H.now host.old).store_faults (H.now host.new).store_faults }
         ensures faultless { IsNoFault result → (H.now host.new).store_faults ≡ (H.now host.old).store_faults }
+        ensures nothing { changes.items ≡ [] → (result ≡ Ok tt) × (self.new ≡ self.old) × (host.new ≡ host.old) }
         ensures same { (IsErrOf result CommitFault.Memory ⊎ IsTooLarge result) → self.new ≡ self.old }
         ensures same_host { (IsErrOf result CommitFault.Memory ⊎ IsTooLarge result) → host.new ≡ host.old }
         ensures full { IsStoreFull result → self.new.kept ≡ self.old.kept }

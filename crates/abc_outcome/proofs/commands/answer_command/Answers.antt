@@ -42,7 +42,7 @@ returns-in-Ok-None-clause-answered g c =
 
 pub returns-in-Ok-None-clause-up_to_date : goal.returns-in-Ok-None-clause-up_to_date
 returns-in-Ok-None-clause-up_to_date g c =
-    still c.answer_run.new.checker c.args.store.now.kept.units c.answer_run.new.store.kept.units c.answer_run.result c.answer_run.ensures.units c.answer_run.ensures.up_to_date
+    still c.answer_run.new.checker c.args.store.now c.answer_run.new.store c.answer_run.result c.answer_run.ensures.units c.answer_run.ensures.answers.same c.answer_run.ensures.up_to_date
 
 pub returns-in-Ok-Some-clause-comes : goal.returns-in-Ok-Some-clause-comes
 returns-in-Ok-Some-clause-comes g c line tells =

@@ -1,12 +1,13 @@
 use Rattle.std.proofs.Common.{◌≡◌, ◌<◌, ◌⊎◌, inl, inr, ◌∙◌, ◌++◌, List, ℕ, length, take, refl, sym, ap, subst}
-use Rattle.std.specs.Prelude.{Option, Result, Ok, Err, IsErrOf}
-use Rattle.abc_outside.specs.Stop.{Leaves, IsQuiet}
+use Rattle.std.specs.Prelude.{Option, Result, Ok, Err, IsErrOf, IsTrue}
+use Rattle.abc_outside.specs.Stop.{Extends, Leaves, IsQuiet}
 use Rattle.abc_outside.proofs.Leaves.{weaken}
 use Rattle.abc_turns.specs.Stops.{in_commit}
 use Rattle.abc_turns.proofs.Points.{commit_then_say}
 use Rattle.abc_reader.specs.Asking.{Asked}
 use Rattle.abc_make.specs.Summary.{with_reply}
-use Rattle.abc_store.specs.View.{work_of}
+use Rattle.abc_store.specs.Commit.{Holds}
+use Rattle.abc_store.specs.View.{View, work_of}
 use Rattle.abc_outcome.specs.Checks.{IsTypeLineOf}
 use Rattle.abc_outcome.specs.Outcome.{outcome}
 use Rattle.abc_outcome.specs.Answers.{behind_at, work_in, CameTo, AsksInside}
@@ -106,6 +107,46 @@ pub returns-in-Err-clause-same : goal.returns-in-Err-clause-same
 returns-in-Err-clause-same g c stops =
     c.answer_item.ensures.keeps.same
     (stopped_three c.answer_item.result c.in-Err.fault c.stop_of_answer.result c.in-Err.is answer.Memory answer.Input answer.Long serve.Memory serve.Input serve.Long c.stop_of_answer.ensures.memory c.stop_of_answer.ensures.input c.stop_of_answer.ensures.long stops)
+
+pub returns-in-Err-clause-same_image : goal.returns-in-Err-clause-same_image
+returns-in-Err-clause-same_image g c stops =
+    c.answer_item.ensures.keeps.same_image
+    (stopped_three c.answer_item.result c.in-Err.fault c.stop_of_answer.result c.in-Err.is answer.Memory answer.Input answer.Long serve.Memory serve.Input serve.Long c.stop_of_answer.ensures.memory c.stop_of_answer.ensures.input c.stop_of_answer.ensures.long stops)
+
+-- an item that was not answered left all as before, but where a call on the store failed
+unanswered : (r : Result Answer AnswerFault) (fault : AnswerFault) (stop : ServeStop) → r ≡ Err fault → (fault ≡ answer.StoreFault → stop ≡ serve.StoreFault)
+    → ¬ (IsErrOf {T = Served} (Err stop) serve.StoreFault) → IsErrOf r answer.Memory ⊎ (IsErrOf r answer.Input ⊎ IsErrOf r answer.Long)
+unanswered r answer.Memory stop is failed other = inl is
+unanswered r answer.Input stop is failed other = inr (inl is)
+unanswered r answer.Long stop is failed other = inr (inr is)
+unanswered r answer.StoreFault stop is failed other = absurd (other (ap Err (failed refl)))
+
+-- then no call did
+no_failure : (r : Result Answer AnswerFault) → IsErrOf r answer.Memory ⊎ (IsErrOf r answer.Input ⊎ IsErrOf r answer.Long) → ¬ (IsErrOf r answer.StoreFault)
+no_failure r (inl is) fails = absurd (cc (is, fails))
+no_failure r (inr (inl is)) fails = absurd (cc (is, fails))
+no_failure r (inr (inr is)) fails = absurd (cc (is, fails))
+
+pub returns-in-Err-clause-holds : goal.returns-in-Err-clause-holds
+returns-in-Err-clause-holds g c told other =
+    let idle = unanswered c.answer_item.result c.in-Err.fault c.stop_of_answer.result c.in-Err.is c.stop_of_answer.ensures.failed other in
+    subst (λ (image : List ℕ). Holds image (work_of c.answer_item.new.store)) (sym (c.answer_item.ensures.keeps.same_image idle))
+    (subst (λ (store : View). Holds (g.H.Host.now c.args.host.now).image (work_of store)) (sym (c.answer_item.ensures.keeps.same idle)) (c.requires.holds told))
+
+pub returns-in-Err-clause-sound : goal.returns-in-Err-clause-sound
+returns-in-Err-clause-sound g c other =
+    let idle = unanswered c.answer_item.result c.in-Err.fault c.stop_of_answer.result c.in-Err.is c.stop_of_answer.ensures.failed other in
+    subst (λ (store : View). IsTrue store.sound) (sym (c.answer_item.ensures.keeps.same idle)) c.requires.sound
+
+pub returns-in-Err-clause-up_to_date : goal.returns-in-Err-clause-up_to_date
+returns-in-Err-clause-up_to_date g c other =
+    let idle = unanswered c.answer_item.result c.in-Err.fault c.stop_of_answer.result c.in-Err.is c.stop_of_answer.ensures.failed other in
+    c.answer_item.ensures.up_to_date (no_failure c.answer_item.result idle)
+
+pub returns-in-Err-clause-quiet : goal.returns-in-Err-clause-quiet
+returns-in-Err-clause-quiet g c told quiet other i s stop =
+    let idle = unanswered c.answer_item.result c.in-Err.fault c.stop_of_answer.result c.in-Err.is c.stop_of_answer.ensures.failed other in
+    subst (λ (image : List ℕ). Extends image i) (sym (c.answer_item.ensures.keeps.same_image idle)) (quiet i s (c.answer_item.ensures.keeps.idle idle i s stop))
 
 pub returns-in-Err-clause-stops : goal.returns-in-Err-clause-stops
 returns-in-Err-clause-stops g c line is_line told told_said told_input quiet =

@@ -267,8 +267,8 @@ returns-clause-cut_short g c told told_said told_input quiet stops =
     item_cut types c.args.store.now.bounds c.args.steps (old g at.After-serve_item) (mid g at.After-serve_item) c.in-Ok-Some.item (first_of g at.After-serve_item told_input) (taken g at.After-serve_item told_input).were_read.ends
     (next_number c.args.served.now) refl c.next_item.ensures.reads_on.rest.said (new g at.After-serve_item) (g.H.Host.stopped c.serve_item.new.host (g.H.Host.clock c.serve_item.new.host))
     (c.serve_item.ensures.cut (types (c.args.served.now + 1)) (line_here g at.After-serve_item types told_input are) told_said told_input sink)
-    (quiet_opens g.H.Host.clock g.H.Host.stopped c.serve_item.new.host (g.H.Host.now c.serve_item.new.host).image (work_of c.serve_item.new.store) (c.serve_item.ensures.holds told (inr sink))
-    (c.serve_item.ensures.quiet told (quiet_still g at.After-next_item quiet) (inr sink))))
+    (quiet_opens g.H.Host.clock g.H.Host.stopped c.serve_item.new.host (g.H.Host.now c.serve_item.new.host).image (work_of c.serve_item.new.store) (c.serve_item.ensures.holds told (λ fails. absurd (cc (sink, fails))))
+    (c.serve_item.ensures.quiet told (quiet_still g at.After-next_item quiet) (λ fails. absurd (cc (sink, fails))))))
 
 pub returns-in-Ok-None-clause-there : goal.returns-in-Ok-None-clause-there
 returns-in-Ok-None-clause-there g c told = record {
