@@ -5,3 +5,4 @@ endif
 let b:did_ftplugin = 1
 setlocal comments=:\\ commentstring=\\\ %s
 setlocal expandtab shiftwidth=2 softtabstop=2 textwidth=0
+let b:undo_ftplugin = "setlocal comments< commentstring< expandtab< shiftwidth< softtabstop< textwidth<"

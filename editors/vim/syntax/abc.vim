@@ -14,10 +14,12 @@ syntax match abcNumber /\d\+\%(\.\d\+\)\?\|\.\d\+/
 syntax match abcRange /\.\./
 syntax match abcQuestion /^\%(::\|==\|:\|=\|-:\).*/
 
-syntax region abcText start=/"/ skip=/""/ end=/"/ oneline contains=abcConversion,abcDoubled
-syntax region abcText start=/'/ skip=/''/ end=/'/ oneline contains=abcConversion,abcDoubled
-syntax region abcConversion matchgroup=abcDelimiter start=/`/ end=/`/ oneline contained contains=abcName,abcOperation,abcNumber,abcText
-syntax match abcDoubled /``\|""\|''/ contained
+" Where a match group is named, nothing that is contained begins at the quote that opens: so an empty text has no doubled quote in it.
+syntax region abcText matchgroup=abcText start=/"/ skip=/""/ end=/"/ end=/$/ oneline contains=abcConversion,abcDoubled
+syntax region abcText matchgroup=abcText start=/'/ skip=/''/ end=/'/ end=/$/ oneline contains=abcConversion,abcSingled
+syntax region abcConversion matchgroup=abcDelimiter start=/`/ end=/`/ oneline contained contains=abcName,abcOperation,abcNumber,abcRange,abcText
+syntax match abcDoubled /``\|""/ contained
+syntax match abcSingled /``\|''/ contained
 syntax match abcComment /\\.*/
 
 highlight default link abcCommand Statement
@@ -27,6 +29,7 @@ highlight default link abcOperation Operator
 highlight default link abcNumber Number
 highlight default link abcText String
 highlight default link abcDoubled SpecialChar
+highlight default link abcSingled SpecialChar
 highlight default link abcDelimiter Delimiter
 highlight default link abcComment Comment
 highlight default link abcQuestion PreProc
