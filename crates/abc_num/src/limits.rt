@@ -73,7 +73,8 @@ pub const IMAGE_BOUND: u64 = 1_099_511_627_776;
 /// Bytes of the input of a run: 2^40.
 pub const INPUT_BOUND: u64 = 1_099_511_627_776;
 
-/// Bytes of records after which a checkpoint is due, besides four times the last one: 2^20.
+/// Bytes of the live region of a store, its first payload among them, from which on a checkpoint is due: 2^20, and four times
+/// that payload besides where a checkpoint wrote it.
 pub const CHECKPOINT_BOUND: u64 = 1_048_576;
 
 /// The least input that is made.
