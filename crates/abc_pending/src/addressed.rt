@@ -47,10 +47,9 @@ fn as_spot(found: Result<Option<(u32, Items<Step>)>, Halt>) -> Result<Option<Spo
     ensures tells { (here : Here) (s : State) (g : Got (Option Address)) → Tells (λ p. Some (place_at p.0 (map step_of p.1))) here.line found s g → Tells address_of here.line result s (after g (whole here)) }
     ensures found { IfOk found (λ found. is_some found ≡ true) → IfOk result (λ found. is_some found ≡ true) }
 {
-    match found {
-        Ok(Some((name, steps))) => Ok(Some(Spot::Place(name, steps))),
-        Ok(None) => Ok(None),
-        Err(halt) => Err(halt),
+    match found? {
+        Some((name, steps)) => Ok(Some(Spot::Place(name, steps))),
+        None => Ok(None),
     }
 }
 
@@ -118,13 +117,12 @@ fn with_key(
     ensures tells { (line : ℕ) (s : State) (g : Got Tree) → Tells (λ v. v) line key s g → Tells (λ p. Some (place_at p.0 (map step_of p.1))) line result s (after g (λ v. gives (stepped (to_key v) (Some (place_at name (map step_of steps)))))) }
     ensures found { IfOk key (λ found. is_some found ≡ true) → IfOk result (λ found. is_some found ≡ true) }
 {
-    match key {
-        Ok(Some(key)) => {
+    match key? {
+        Some(key) => {
             let mut steps = steps;
             steps.push(Step::Key(key))?;
             Ok(Some((name, steps)))
         }
-        Ok(None) => Ok(None),
-        Err(halt) => Err(halt),
+        None => Ok(None),
     }
 }

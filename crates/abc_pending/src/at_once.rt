@@ -205,10 +205,9 @@ fn both_found(
     ensures tells { (units : List Routine) (lines : List RawLine) (ended : Bool) → Tells (λ p. p) place.line result (state_of run.now targets.now lines ended) (both (meaning units place.levels) (at (scope_of scope.now) place.line) x.now y.now (state_of run.now targets.now lines ended)) }
     ensures found { (height : ℕ) → (is_at_once height (scope_of scope.now) x.now && is_at_once height (scope_of scope.now) y.now) ≡ true → IfOk result (λ found. is_some found ≡ true) }
 {
-    match value_found(alloc, scope, place, x, run, targets) {
-        Ok(Some(first)) => with_second(first, value_found(alloc, scope, place, y, run, targets)),
-        Ok(None) => Ok(None),
-        Err(halt) => Err(halt),
+    match value_found(alloc, scope, place, x, run, targets)? {
+        Some(first) => with_second(first, value_found(alloc, scope, place, y, run, targets)),
+        None => Ok(None),
     }
 }
 
@@ -220,10 +219,9 @@ fn with_second(
     ensures tells { (line : ℕ) (s : State) (g : Got Tree) → Tells (λ v. v) line second s g → Tells (λ p. p) line result s (after g (λ w. gives (first, w))) }
     ensures found { IfOk second (λ found. is_some found ≡ true) → IfOk result (λ found. is_some found ≡ true) }
 {
-    match second {
-        Ok(Some(second)) => Ok(Some((first, second))),
-        Ok(None) => Ok(None),
-        Err(halt) => Err(halt),
+    match second? {
+        Some(second) => Ok(Some((first, second))),
+        None => Ok(None),
     }
 }
 
@@ -236,10 +234,9 @@ fn applied_to_found(
     ensures tells { (here : Here) (s : State) (g : Got Tree) → Tells (λ v. v) here.line operand s g → Tells (λ v. v) here.line result s (after g (applied_to_one here op)) }
     ensures found { IfOk operand (λ found. is_some found ≡ true) → IfOk result (λ found. is_some found ≡ true) }
 {
-    match operand {
-        Ok(Some(value)) => some(applied_to_one(alloc, op, &value)),
-        Ok(None) => Ok(None),
-        Err(halt) => Err(halt),
+    match operand? {
+        Some(value) => some(applied_to_one(alloc, op, &value)),
+        None => Ok(None),
     }
 }
 
@@ -252,10 +249,9 @@ fn applied_found(
     ensures tells { (here : Here) (s : State) (g : Got (Tree × Tree)) → Tells (λ p. p) here.line operands s g → Tells (λ v. v) here.line result s (after g (λ p. applied here op p.0 p.1)) }
     ensures found { IfOk operands (λ found. is_some found ≡ true) → IfOk result (λ found. is_some found ≡ true) }
 {
-    match operands {
-        Ok(Some((x, y))) => some(applied(alloc, op, &x, &y)),
-        Ok(None) => Ok(None),
-        Err(halt) => Err(halt),
+    match operands? {
+        Some((x, y)) => some(applied(alloc, op, &x, &y)),
+        None => Ok(None),
     }
 }
 
@@ -267,10 +263,9 @@ fn selected_found(
     ensures tells { (here : Here) (s : State) (g : Got (Tree × Tree)) → Tells (λ p. p) here.line operands s g → Tells (λ v. v) here.line result s (after g (λ p. selected here p.0 p.1)) }
     ensures found { IfOk operands (λ found. is_some found ≡ true) → IfOk result (λ found. is_some found ≡ true) }
 {
-    match operands {
-        Ok(Some((table, key))) => some(selected(alloc, &table, &key)),
-        Ok(None) => Ok(None),
-        Err(halt) => Err(halt),
+    match operands? {
+        Some((table, key)) => some(selected(alloc, &table, &key)),
+        None => Ok(None),
     }
 }
 
@@ -283,10 +278,9 @@ fn compared_found(
     ensures tells { (here : Here) (s : State) (g : Got (Tree × Tree)) → Tells (λ p. p) here.line operands s g → Tells (λ b. b) here.line result s (after g (λ p. compared here op p.0 p.1)) }
     ensures found { IfOk operands (λ found. is_some found ≡ true) → IfOk result (λ found. is_some found ≡ true) }
 {
-    match operands {
-        Ok(Some((x, y))) => some(compared(alloc, op, &x, &y)),
-        Ok(None) => Ok(None),
-        Err(halt) => Err(halt),
+    match operands? {
+        Some((x, y)) => some(compared(alloc, op, &x, &y)),
+        None => Ok(None),
     }
 }
 
@@ -295,10 +289,7 @@ fn some<T>(answer: Result<T, Halt>) -> Result<Option<T>, Halt>
     ensures ok { IfOk answer (λ value. result ≡ Ok (Some value)) }
     ensures err { IfErr answer (λ halt. result ≡ Err halt) }
 {
-    match answer {
-        Ok(value) => Ok(Some(value)),
-        Err(halt) => Err(halt),
-    }
+    Ok(Some(answer?))
 }
 
 /// The value of a name that is no refinement.

@@ -7,7 +7,7 @@ ghost use Rattle.abc_value.specs.Items.{IsAnswer};
 ghost use Rattle.abc_predef.specs.Aligned.{aligned, between_spaces, left_share, padded};
 
 use crate::characters::SPACE;
-use crate::texts::{count, short_text};
+use crate::texts::{count, short_text_from};
 use abc_num::Num;
 use abc_num::limits::MOST_ELEMENTS;
 use abc_value::{PrintFault, Value, ValueFault, text_of};
@@ -36,7 +36,7 @@ pub(crate) fn align(
         return Err(ValueFault::TooLong);
     }
     let all = pad(alloc, &text, length as usize, alignment)?;
-    short_text(alloc, &all)
+    short_text_from(all)
 }
 
 /// The outer text of a value. TooLong where it is no text of a value.
@@ -82,7 +82,10 @@ fn with_spaces(alloc: Global, left: usize, b: &[u8], right: usize) -> Result<Vec
     ensures ok { IfOk result (λ v. v.items ≡ between_spaces left b.now right) }
     ensures err { IfErr result (λ f. f ≡ ValueFault.Memory) }
 {
-    let mut all = vec![in alloc; SPACE; left]?;
+    let length = left.saturating_add(b.len()).saturating_add(right);
+    let mut all = Vec::with_capacity(alloc, length)?;
+    let before = vec![in alloc; SPACE; left]?;
+    all.extend_from_slice(&before)?;
     all.extend_from_slice(b)?;
     let behind = vec![in alloc; SPACE; right]?;
     all.extend_from_slice(&behind)?;

@@ -10,7 +10,7 @@ ghost use Rattle.abc_predef.specs.inner.Places.{with_word};
 
 use crate::characters::word_len;
 use crate::numbers::place_number;
-use crate::texts::{codes, short_text};
+use crate::texts::short_text;
 use abc_num::limits::MOST_ELEMENTS;
 use abc_value::{Value, ValueFault};
 use std::alloc::Global;
@@ -35,8 +35,7 @@ pub(crate) fn split(alloc: Global, t: &Value) -> Result<Value, ValueFault>
     requires { IsText t.now }
     ensures { IsAnswer (Ok (split_of (codes_of t.now))) result }
 {
-    let all = codes(alloc, t)?;
-    table_of_words(alloc, &all)
+    table_of_words(alloc, t.codes())
 }
 
 /// The table of the words of a text.

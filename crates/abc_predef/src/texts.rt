@@ -1,5 +1,5 @@
 //! The rows of texts.
-ghost use Rattle.std.specs.Prelude.{◌≡◌, ◌≤◌, ◌*◌, nat_lt, length, map, take, drop, IfOk, IfErr, Ok};
+ghost use Rattle.std.specs.Prelude.{◌≡◌, ◌≤◌, ◌*◌, nat_lt, length, map, IfOk, IfErr, Ok};
 ghost use Rattle.std.specs.List.{repeat};
 ghost use Rattle.abc_num.specs.Number.{whole_of};
 ghost use Rattle.abc_value.specs.Tree.{text};
@@ -14,57 +14,6 @@ use abc_num::limits::MOST_ELEMENTS;
 use abc_value::{Value, ValueFault};
 use std::alloc::Global;
 
-/// The codes of a text.
-pub(crate) fn codes(alloc: Global, t: &Value) -> Result<Vec<u8>, ValueFault>
-    ensures ok { IfOk result (λ v. v.items ≡ codes_of t.now) }
-    ensures err { IfErr result (λ f. f ≡ ValueFault.Memory) }
-    ensures characters { AreCharacters (codes_of t.now) }
-    ensures short { length (codes_of t.now) ≤ MOST_ELEMENTS }
-{
-    let mut codes = Vec::with_capacity(alloc, t.len())?;
-    while let Some(code) = t.byte(codes.len()) {
-        codes.push(code)?;
-    }
-    Ok(codes)
-}
-
-/// The codes of a text from a place on, which counts from 0. No other code is looked at.
-fn codes_from(alloc: Global, t: &Value, start: usize) -> Result<Vec<u8>, ValueFault>
-    requires { start ≤ length (codes_of t.now) }
-    ensures ok { IfOk result (λ v. v.items ≡ drop start (codes_of t.now)) }
-    ensures err { IfErr result (λ f. f ≡ ValueFault.Memory) }
-    ensures characters { AreCharacters (drop start (codes_of t.now)) }
-    ensures short { length (drop start (codes_of t.now)) ≤ MOST_ELEMENTS }
-{
-    // Its clause tells that the codes are those of characters.
-    let length = t.len();
-    let mut codes = Vec::with_capacity(alloc, length.saturating_sub(start))?;
-    while let Some(code) = t.byte(start + codes.len()) {
-        codes.push(code)?;
-    }
-    Ok(codes)
-}
-
-/// The codes of a text up to a place, which is not past its end. No other code is looked at.
-fn codes_up_to(alloc: Global, t: &Value, end: usize) -> Result<Vec<u8>, ValueFault>
-    requires { end ≤ length (codes_of t.now) }
-    ensures ok { IfOk result (λ v. v.items ≡ take end (codes_of t.now)) }
-    ensures err { IfErr result (λ f. f ≡ ValueFault.Memory) }
-    ensures characters { AreCharacters (take end (codes_of t.now)) }
-    ensures short { length (take end (codes_of t.now)) ≤ MOST_ELEMENTS }
-{
-    // Its clause tells that the codes are those of characters.
-    let _length = t.len();
-    let mut codes = Vec::with_capacity(alloc, end)?;
-    for i in 0..end {
-        let Some(code) = t.byte(i) else {
-            unreachable!()
-        };
-        codes.push(code)?;
-    }
-    Ok(codes)
-}
-
 /// The text of these codes, which are not too many.
 pub(crate) fn short_text(alloc: Global, codes: &[u8]) -> Result<Value, ValueFault>
     requires characters { AreCharacters codes.now }
@@ -72,6 +21,15 @@ pub(crate) fn short_text(alloc: Global, codes: &[u8]) -> Result<Value, ValueFaul
     ensures { IsAnswer (Ok (text codes.now)) result }
 {
     Value::text(alloc, codes)
+}
+
+/// The text of these codes, which are not too many and are kept as they are.
+pub(crate) fn short_text_from(codes: Vec<u8>) -> Result<Value, ValueFault>
+    requires characters { AreCharacters codes.items }
+    requires short { length codes.items ≤ MOST_ELEMENTS }
+    ensures { IsAnswer (Ok (text codes.items)) result }
+{
+    Value::text_from(codes)
 }
 
 /// The number as a count. NotWhole, and OutOfRange where it is negative.
@@ -91,13 +49,16 @@ pub(crate) fn join(alloc: Global, t: &Value, u: &Value) -> Result<Value, ValueFa
     requires second { IsText u.now }
     ensures { IsAnswer (joined (codes_of t.now) (codes_of u.now)) result }
 {
-    if t.len() + u.len() > MOST_ELEMENTS {
+    let front = t.codes();
+    let behind = u.codes();
+    let length = front.len() + behind.len();
+    if length > MOST_ELEMENTS {
         return Err(ValueFault::TooLong);
     }
-    let mut all = codes(alloc, t)?;
-    let behind = codes(alloc, u)?;
-    all.extend_from_slice(&behind)?;
-    short_text(alloc, &all)
+    let mut all = Vec::with_capacity(alloc, length)?;
+    all.extend_from_slice(front)?;
+    all.extend_from_slice(behind)?;
+    short_text_from(all)
 }
 
 /// `t @ p`: the text from the place `p` on, which counts from 1.
@@ -105,12 +66,12 @@ pub(crate) fn behead(alloc: Global, t: &Value, p: &Num) -> Result<Value, ValueFa
     requires { IsText t.now }
     ensures { IsAnswer (from_place (codes_of t.now) (whole_of p.now)) result }
 {
+    let codes = t.codes();
     let place = count(p)?;
-    if place < 1 || place > t.len() as u128 + 1 {
+    if place < 1 || place > codes.len() as u128 + 1 {
         return Err(ValueFault::OutOfRange);
     }
-    let part = codes_from(alloc, t, place as usize - 1)?;
-    short_text(alloc, &part)
+    short_text(alloc, &codes[place as usize - 1..])
 }
 
 /// `t | n`: the first `n` characters.
@@ -118,12 +79,12 @@ pub(crate) fn curtail(alloc: Global, t: &Value, n: &Num) -> Result<Value, ValueF
     requires { IsText t.now }
     ensures { IsAnswer (first_part (codes_of t.now) (whole_of n.now)) result }
 {
+    let codes = t.codes();
     let count = count(n)?;
-    if count > t.len() as u128 {
+    if count > codes.len() as u128 {
         return Err(ValueFault::OutOfRange);
     }
-    let part = codes_up_to(alloc, t, count as usize)?;
-    short_text(alloc, &part)
+    short_text(alloc, &codes[..count as usize])
 }
 
 /// `t ^^ n`: the text `n` times.
@@ -131,13 +92,13 @@ pub(crate) fn repeat(alloc: Global, t: &Value, n: &Num) -> Result<Value, ValueFa
     requires { IsText t.now }
     ensures { IsAnswer (repeated (codes_of t.now) (whole_of n.now)) result }
 {
+    let part = t.codes();
     let count = count(n)?;
-    let part = codes(alloc, t)?;
     if is_past_limit(count, part.len()) {
         return Err(ValueFault::TooLong);
     }
-    let all = repeat_codes(alloc, &part, count)?;
-    short_text(alloc, &all)
+    let all = repeat_codes(alloc, part, count)?;
+    short_text_from(all)
 }
 
 /// Whether so many parts of a length are longer than a text may be.
@@ -152,14 +113,15 @@ fn is_past_limit(count: u128, length: usize) -> bool
 
 /// The codes so many times.
 fn repeat_codes(alloc: Global, part: &[u8], count: u128) -> Result<Vec<u8>, ValueFault>
+    requires { count * length part.now ≤ MOST_ELEMENTS }
     ensures ok { IfOk result (λ v. v.items ≡ repeat count part.now) }
     ensures err { IfErr result (λ f. f ≡ ValueFault.Memory) }
 {
-    let mut all = Vec::new(alloc);
     // However often the empty text is repeated, it takes no time.
     if part.is_empty() {
-        return Ok(all);
+        return Ok(Vec::new(alloc));
     }
+    let mut all = Vec::with_capacity(alloc, count as usize * part.len())?;
     for _ in 0..count {
         all.extend_from_slice(part)?;
     }
@@ -171,9 +133,8 @@ pub(crate) fn with_case(alloc: Global, t: &Value, case: Case) -> Result<Value, V
     requires { IsText t.now }
     ensures { IsAnswer (Ok (text (map (in_case case) (codes_of t.now)))) result }
 {
-    let all = codes(alloc, t)?;
-    let changed = codes_in(alloc, &all, case)?;
-    short_text(alloc, &changed)
+    let changed = codes_in(alloc, t.codes(), case)?;
+    short_text_from(changed)
 }
 
 /// The codes with letters in one case.
@@ -189,8 +150,7 @@ pub(crate) fn strip(alloc: Global, t: &Value) -> Result<Value, ValueFault>
     requires { IsText t.now }
     ensures { IsAnswer (Ok (text (stripped (codes_of t.now)))) result }
 {
-    let all = codes(alloc, t)?;
-    short_text(alloc, strip_end(strip_front(&all)))
+    short_text(alloc, strip_end(strip_front(t.codes())))
 }
 
 /// The codes from the first on that is no space.

@@ -5,7 +5,7 @@ use Rattle.abc_value.specs.Parts.{parts_of}
 use Rattle.abc_value.specs.Forms.{joined, form_of}
 use Rattle.abc_value.specs.Printed.{outer}
 use Rattle.abc_outside.specs.Lines.{Unread, lines_in}
-use Rattle.abc_meaning.specs.State.{State, place, Run, gives, ◌>>=◌}
+use Rattle.abc_meaning.specs.State.{State, place, Run, gives, ◌>>=◌, ◌>>◌}
 use Rattle.abc_meaning.specs.Here.{Here, Scope, look, is_bound, mistake}
 use Rattle.abc_meaning.specs.Deeper.{Actual}
 use Rattle.abc_meaning.specs.Fits.{has_type}
@@ -15,6 +15,10 @@ use Rattle.abc_meaning.specs.Acts.{newlines, say}
 -- the lines left are those of what is unread
 abbrev pub with_lines : Unread → State → State
 with_lines unread s = record s { lines = lines_in unread; ended = unread.ends }
+
+-- nothing but the test whether there is a range between two values
+abbrev pub range_checked : Here → Tree → Tree → Run (Unit {0})
+range_checked here x y = range here x y >> gives tt
 
 -- the range between two values stands in a display, behind what was found
 abbrev pub ranged : Here → Filling → Tree → Tree → Run Filling

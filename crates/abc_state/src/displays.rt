@@ -15,7 +15,7 @@ ghost use Rattle.abc_state.specs.Words.{ranged, filled_with, paired_with};
 ghost use Rattle.abc_state.specs.Agrees.{Agrees};
 
 use crate::halt::{Halt, halt_of};
-use crate::values::{copied, have_range, range};
+use crate::values::{check_range, copied, have_range};
 use abc_num::limits::MOST_ELEMENTS;
 use abc_num::{Items, OutOfMemory};
 use abc_value::{Shape, Value, ValueFault};
@@ -67,11 +67,11 @@ impl Filling {
         Ok(Filling { fillers, shape })
     }
 
-    /// With the elements of one more range. The range is made to find its faults, and dropped.
+    /// With the elements of one more range, which are made by `display`.
     pub fn with_range(self, alloc: Global, first: &Value, last: &Value) -> Result<Filling, Halt>
         ensures { (here : Here) (s : State) → Agrees filling_of here.line result s (ranged here (filling_of self) first.now last.now s) }
     {
-        let _made = range(alloc, first, last)?;
+        check_range(first, last)?;
         let Filling { mut fillers, shape } = self;
         let shape = joined(alloc, shape, first)?;
         let shape = joined(alloc, shape, last)?;
@@ -171,8 +171,28 @@ fn listed(alloc: Global, fillers: &[Filler]) -> Result<Value, ValueFault>
     ensures value { IfOk result (λ v. v ≡ list (trees (in_order (flat_map filler_elements fillers.now)))) }
     ensures sizes { IsMakingOf (list (trees (in_order (flat_map filler_elements fillers.now)))) result }
 {
+    if fillers.len() == 1 {
+        if let Filler::Range(first, last) = &fillers[0] {
+            return range_list(alloc, first, last);
+        }
+    }
     let elements = elements_of(alloc, fillers)?;
     Value::list(alloc, elements)
+}
+
+/// The list of the elements of a range, which are made in order. Ends that make no range have none: `with_range` let none in.
+fn range_list(alloc: Global, first: &Value, last: &Value) -> Result<Value, ValueFault>
+    ensures value { IfOk result (λ v. v ≡ list (trees (in_order (range_elements first.now last.now)))) }
+    ensures sizes { IsMakingOf (list (trees (in_order (range_elements first.now last.now)))) result }
+{
+    if !have_range(first, last) {
+        return Ok(Value::empty(alloc));
+    }
+    match Value::range(alloc, first, last) {
+        Ok(list) => Ok(list),
+        Err(ValueFault::Memory) => Err(ValueFault::Memory),
+        Err(_) => Ok(Value::empty(alloc)),
+    }
 }
 
 /// The elements of all fillers, unless they are too many for a list.

@@ -9,8 +9,9 @@ ghost use Rattle.abc_value.specs.Parts.{IsTable};
 ghost use Rattle.abc_meaning.specs.State.{State};
 ghost use Rattle.abc_meaning.specs.Here.{Here};
 ghost use Rattle.abc_meaning.specs.Fits.{has_type, fits_table, gives_value, is_test, have_range};
-ghost use Rattle.abc_meaning.specs.Value.{there, composed, selected, applied_to_one, applied, range};
+ghost use Rattle.abc_meaning.specs.Value.{there, composed, selected, applied_to_one, applied};
 ghost use Rattle.abc_meaning.specs.Holds.{compared};
+ghost use Rattle.abc_state.specs.Words.{range_checked};
 ghost use Rattle.abc_state.specs.Agrees.{Agrees};
 
 use crate::halt::{Halt, halt_of};
@@ -190,15 +191,15 @@ pub(crate) fn have_range(p: &Value, q: &Value) -> bool
     }
 }
 
-/// The list from one value to another.
-pub(crate) fn range(alloc: Global, p: &Value, q: &Value) -> Result<Value, Halt>
-    ensures { (here : Here) (s : State) → Agrees (λ v. v) here.line result s (range here p.now q.now s) }
+/// Whether there is a list from one value to another.
+pub(crate) fn check_range(p: &Value, q: &Value) -> Result<(), Halt>
+    ensures { (here : Here) (s : State) → Agrees (λ _. tt) here.line result s (range_checked here p.now q.now s) }
 {
     if !have_range(p, q) {
         return Err(Halt::Wrong);
     }
-    match Value::range(alloc, p, q) {
-        Ok(value) => Ok(value),
+    match Value::check_range(p, q) {
+        Ok(()) => Ok(()),
         Err(fault) => Err(halt_of(fault)),
     }
 }

@@ -62,10 +62,10 @@ fn answer_ahead<'a>(
     ensures falls { IfOk result (λ on. next_weight on ≤ frame_weight (frame_of frame.entry) + job_weight (job_of work.entry.1)) }
 {
     match reply_ahead(alloc, scope, &work, run, targets) {
-        Ok(Some(reply)) => match resumed(alloc, scope, frame, reply, run, targets) {
-            Ok(next) => Ok(begin_suite(next)),
-            Err(halted) => Err(halted),
-        },
+        Ok(Some(reply)) => {
+            let next = resumed(alloc, scope, frame, reply, run, targets)?;
+            Ok(begin_suite(next))
+        }
         Ok(None) => Ok(wait_for_all(frame, work)),
         Err(halt) => Err(Halted {
             line: work.0.line,
@@ -96,10 +96,9 @@ fn reply_ahead<'a>(
 fn as_value(found: Result<Option<Value>, Halt>) -> Result<Option<Reply>, Halt>
     ensures replies { (line : ℕ) (s : State) (g : Got Tree) → Tells (λ v. v) line found s g → Tells reply_of line result s (as_val g) }
 {
-    match found {
-        Ok(Some(value)) => Ok(Some(Reply::Val(value))),
-        Ok(None) => Ok(None),
-        Err(halt) => Err(halt),
+    match found? {
+        Some(value) => Ok(Some(Reply::Val(value))),
+        None => Ok(None),
     }
 }
 
@@ -107,10 +106,9 @@ fn as_value(found: Result<Option<Value>, Halt>) -> Result<Option<Reply>, Halt>
 fn as_truth(found: Result<Option<bool>, Halt>) -> Result<Option<Reply>, Halt>
     ensures replies { (line : ℕ) (s : State) (g : Got Bool) → Tells (λ b. b) line found s g → Tells reply_of line result s (as_truth g) }
 {
-    match found {
-        Ok(Some(truth)) => Ok(Some(Reply::Truth(truth))),
-        Ok(None) => Ok(None),
-        Err(halt) => Err(halt),
+    match found? {
+        Some(truth) => Ok(Some(Reply::Truth(truth))),
+        None => Ok(None),
     }
 }
 

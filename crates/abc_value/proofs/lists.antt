@@ -3,4 +3,6 @@ pub mod Adding
 pub mod Placing
 pub mod Removing
 pub mod Ranges
+pub mod Alike
+pub mod Checking
 pub mod Merging

@@ -82,3 +82,8 @@ abbrev pub range_of : Tree → Tree → Result Tree ValueFault
 range_of (number x) (number y) = number_range (whole_of x) (whole_of y)
 range_of (text b) (text c) = character_range b c
 range_of p q = Err OutOfRange
+
+-- whether there is an answer, and else the fault
+abbrev pub checked : {A : Type 0} → Result A ValueFault → Result (Unit {0}) ValueFault
+checked (Ok a) = Ok tt
+checked (Err f) = Err f

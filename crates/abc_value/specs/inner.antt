@@ -1,4 +1,5 @@
 -- Steps of the code, in words that no public clause uses.
+pub mod Alike
 pub mod Heights
 pub mod Keeps
 pub mod Kept

@@ -1,6 +1,6 @@
 //! The shape that the parts of a list or a table have together, kept beside them, so that no test of types walks over the parts.
 ghost use Rattle.std.specs.Prelude.{◌≡◌, ◌<◌, ◌≤◌, ℕ, List, [], ◌∷◌, ◌++◌, length, slice_set, slice_index_or, None, IfOk, IsTrue};
-ghost use Rattle.std.specs.List.{between, remove};
+ghost use Rattle.std.specs.List.{AllByRecursion, between, remove};
 ghost use Rattle.std.specs.Option.{IfSome, option_map};
 ghost use Rattle.abc_value.specs.Tree.{Tree};
 ghost use Rattle.abc_value.specs.Forms.{forms, form_of};
@@ -55,7 +55,7 @@ pub(crate) struct Common {
 }
 
 impl Common {
-    /// Of no values. This takes no memory.
+    /// What is kept of no values. This takes no memory.
     pub(crate) fn new() -> Common
         ensures none { Keeps result [] }
         ensures shape { (ts : List Tree) → None ≡ common_form ts → Keeps result ts }
@@ -66,7 +66,7 @@ impl Common {
         }
     }
 
-    /// Of one value.
+    /// What is kept of one value.
     fn of(alloc: Global, v: &Value) -> Result<Common, OutOfMemory>
         ensures { IfOk result (λ c. Keeps c (v.now ∷ [])) }
     {
@@ -74,14 +74,22 @@ impl Common {
         Ok(Common { shape, whole: 1 })
     }
 
-    /// Of all values of a column.
+    /// What is kept of so many values, each of which has the shape of `v`.
+    pub(crate) fn of_many(alloc: Global, v: &Value, many: u32) -> Result<Common, OutOfMemory>
+        ensures { IfOk result (λ c. (ts : List Tree) → length ts ≡ many → AllByRecursion (λ t. form_of t ≡ form_of v.now) ts → Keeps c ts) }
+    {
+        let shape = shared(alloc, Shape::of(alloc, v)?)?;
+        Ok(Common { shape, whole: many })
+    }
+
+    /// What is kept of all values of a column.
     pub(crate) fn of_all(alloc: Global, all: &Column) -> Result<Common, OutOfMemory>
         ensures { IfOk result (λ c. Keeps c (column all.now)) }
     {
         Common::new().and(alloc, 0, all, 0, all.len())
     }
 
-    /// What is kept, with one more owner.
+    /// The same, with one more owner.
     pub(crate) fn copy(&self) -> Result<Common, OutOfMemory>
         ensures { IfOk result (λ c. (ts : List Tree) → Keeps self.now ts → Keeps c ts) }
     {
@@ -105,7 +113,7 @@ impl Common {
         }
     }
 
-    /// Of one value more than the `others`.
+    /// What is kept of one value more than the `others`.
     pub(crate) fn with(
         &self,
         alloc: Global,
@@ -134,7 +142,7 @@ impl Common {
         })
     }
 
-    /// Of the `others` and of the values of a column at these places.
+    /// What is kept of the `others` and of the values of a column at these places.
     fn and(
         self,
         alloc: Global,
@@ -155,8 +163,8 @@ impl Common {
         Ok(common)
     }
 
-    /// Of the values of a column without the one at this place. They are gone through only where none of them is known to have
-    /// the shape of all.
+    /// What is kept of the values of a column without the one at this place. They are gone through only where none of them is
+    /// known to have the shape of all.
     pub(crate) fn without(
         &self,
         alloc: Global,
@@ -172,8 +180,8 @@ impl Common {
         }
     }
 
-    /// Of the values of a column with `v` in place of the one at this place. They are gone through only where none of the others
-    /// is known to have the shape of all, and that of `v` isn't within it.
+    /// What is kept of the values of a column with `v` in place of the one at this place. They are gone through only where none
+    /// of the others is known to have the shape of all, and that of `v` isn't within it.
     pub(crate) fn replaced(
         &self,
         alloc: Global,
@@ -194,7 +202,7 @@ impl Common {
         others_of(alloc, all, place)?.with(alloc, others, v)
     }
 
-    /// Of the same values without `gone`, if one of the others is known to have the shape of all.
+    /// What is kept of the same values without `gone`, if one of the others is known to have the shape of all.
     fn less(&self, alloc: Global, gone: &Value) -> Result<Option<Common>, OutOfMemory>
         ensures { IfOk result (λ o. IfSome o (λ c. (ts : List Tree) (i : ℕ) → i < length ts →
             gone.now ≡ slice_index_or ts i gone.now → Keeps self.now ts → Keeps c (remove ts i))) }
@@ -241,7 +249,7 @@ fn shared(alloc: Global, shape: Option<Shape>) -> Result<Option<Rc<Shape>>, OutO
     }
 }
 
-/// Of the values of a column without the one at this place, which are gone through.
+/// What is kept of the values of a column without the one at this place, which are gone through.
 fn others_of(alloc: Global, all: &Column, place: usize) -> Result<Common, OutOfMemory>
     requires { place < length (column all.now) }
     ensures { IfOk result (λ c. Keeps c (remove (column all.now) place)) }

@@ -6,6 +6,7 @@ ghost use Rattle.std.specs.Option.{option_map};
 ghost use Rattle.abc_value.specs.Tree.{list, table, trees, pairs};
 ghost use Rattle.abc_value.specs.Forms.{a_list, form_of};
 ghost use Rattle.abc_value.specs.View.{as_pair};
+ghost use Rattle.abc_value.specs.inner.Alike.{AreAlike};
 
 use crate::common::{Column, Common};
 use crate::table_shapes::TableShapes;
@@ -13,6 +14,7 @@ use crate::value::Entry;
 use crate::{Shape, Value};
 use abc_chunks::Chunks;
 use abc_num::OutOfMemory;
+use abc_num::limits::MOST_ELEMENTS;
 use std::alloc::Global;
 use std::marker::Model;
 use std::ops::Index;
@@ -115,6 +117,19 @@ impl Elements {
         ensures { IfOk result (λ e. e ≡ items) }
     {
         let common = Common::of_all(items.allocator(), &Column::Elements(&items))?;
+        Ok(Elements { items, common })
+    }
+
+    /// These elements, each of which has the shape of the first. No other is asked for it.
+    pub(crate) fn alike(items: Chunks<Value>) -> Result<Elements, OutOfMemory>
+        requires few { length items ≤ MOST_ELEMENTS }
+        requires alike { AreAlike items }
+        ensures { IfOk result (λ e. e ≡ items) }
+    {
+        if items.is_empty() {
+            return Ok(Elements::new(items.allocator()));
+        }
+        let common = Common::of_many(items.allocator(), &items[0], items.len() as u32)?;
         Ok(Elements { items, common })
     }
 

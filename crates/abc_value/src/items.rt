@@ -3,9 +3,9 @@ ghost use Rattle.std.specs.Prelude.{◌≡◌, ◌<◌, ◌+◌, ◌-◌, ◌^�
 ghost use Rattle.abc_num.specs.Number.{whole_of, whole_number};
 ghost use Rattle.abc_value.specs.Tree.{number};
 ghost use Rattle.abc_value.specs.Regular.{AreCharacters};
-ghost use Rattle.abc_value.specs.Items.{IsAnswer, IsTrain, HaveRange, item_of, range_of, place_in, count_of, number_range, character_range};
+ghost use Rattle.abc_value.specs.Items.{IsAnswer, IsTrain, HaveRange, item_of, range_of, checked, place_in, count_of, number_range, character_range};
 
-use crate::list::ordered_list;
+use crate::list::alike_list;
 use crate::value::Node;
 use crate::{Value, ValueFault};
 use abc_chunks::Chunks;
@@ -60,6 +60,33 @@ impl Value {
             _ => unreachable!(),
         }
     }
+
+    /// Whether there is a list from `p` to `q`: the faults that `range` tells, without the list.
+    pub fn check_range(p: &Value, q: &Value) -> Result<(), ValueFault>
+        requires { HaveRange p.now q.now }
+        ensures { result ≡ checked (range_of p.now q.now) }
+    {
+        match (&p.node, &q.node) {
+            (Node::Number(p), Node::Number(q)) => match (p.to_whole(), q.to_whole()) {
+                (Some(first), Some(last)) => check_numbers(first, last),
+                _ => Err(ValueFault::NotWhole),
+            },
+            (Node::Text(p), Node::Text(q)) => check_characters(p.as_slice(), q.as_slice()),
+            _ => unreachable!(),
+        }
+    }
+}
+
+/// Whether a list may have as many elements as there are whole numbers from `p` to `q`. TooLong where it may not.
+fn check_numbers(p: i128, q: i128) -> Result<(), ValueFault>
+    requires first { unsigned_abs p < 2 ^ 127 }
+    requires last { unsigned_abs q < 2 ^ 127 }
+    ensures { result ≡ checked (number_range (Some p) (Some q)) }
+{
+    if count_between(p, q) > MOST_ELEMENTS as u128 {
+        return Err(ValueFault::TooLong);
+    }
+    Ok(())
 }
 
 /// The list of the whole numbers from `p` to `q`.
@@ -68,15 +95,13 @@ fn range_of_numbers(alloc: Global, p: i128, q: i128) -> Result<Value, ValueFault
     requires last { unsigned_abs q < 2 ^ 127 }
     ensures { IsAnswer (number_range (Some p) (Some q)) result }
 {
+    check_numbers(p, q)?;
     let count = count_between(p, q);
-    if count > MOST_ELEMENTS as u128 {
-        return Err(ValueFault::TooLong);
-    }
-    let mut items = Vec::new(alloc);
+    let mut items = Chunks::new(alloc);
     for k in 0..count as usize {
-        items.push(whole_value(p, k))?;
+        items.insert(k, whole_value(p, k))?;
     }
-    ordered_list(Chunks::from_vec(items)?)
+    alike_list(items)
 }
 
 /// How many whole numbers there are from `p` to `q`.
@@ -100,19 +125,29 @@ fn whole_value(p: i128, k: usize) -> Value
     }
 }
 
+/// Whether both texts are of one character. OutOfRange where one of them isn't.
+fn check_characters(b: &[u8], c: &[u8]) -> Result<(), ValueFault>
+    requires first { AreCharacters b.now }
+    requires last { AreCharacters c.now }
+    ensures { result ≡ checked (character_range b.now c.now) }
+{
+    if b.len() != 1 || c.len() != 1 {
+        return Err(ValueFault::OutOfRange);
+    }
+    Ok(())
+}
+
 /// The list of the characters from the one of `b` to the one of `c`.
 fn range_of_characters(alloc: Global, b: &[u8], c: &[u8]) -> Result<Value, ValueFault>
     requires first { AreCharacters b.now }
     requires last { AreCharacters c.now }
     ensures { IsAnswer (character_range b.now c.now) result }
 {
-    if b.len() != 1 || c.len() != 1 {
-        return Err(ValueFault::OutOfRange);
-    }
+    check_characters(b, c)?;
     let first = b[0];
-    let mut items = Vec::new(alloc);
+    let mut items = Chunks::new(alloc);
     for k in 0..(c[0] + 1).saturating_sub(first) {
-        items.push(Value::text(alloc, &[first + k])?)?;
+        items.insert(k as usize, Value::text(alloc, &[first + k])?)?;
     }
-    ordered_list(Chunks::from_vec(items)?)
+    alike_list(items)
 }

@@ -22,13 +22,24 @@ impl Value {
         ensures value { IfOk result (λ v. v ≡ text b.now) }
         ensures sizes { IsMakingOf (text b.now) result }
     {
-        if b.len() > MOST_ELEMENTS {
+        Value::text_from(Vec::from_slice(alloc, b)?)
+    }
+
+    /// The text of these characters, which keeps the vector. TooLong where there are too many.
+    pub fn text_from(codes: Vec<u8>) -> Result<Value, ValueFault>
+        requires { AreCharacters codes.items }
+        ensures value { IfOk result (λ v. v ≡ text codes.items) }
+        ensures sizes { IsMakingOf (text codes.items) result }
+    {
+        let length = codes.len();
+        if length > MOST_ELEMENTS {
             return Err(ValueFault::TooLong);
         }
+        let alloc = *codes.allocator();
         Ok(Value {
-            node: Node::Text(Rc::new(alloc, Vec::from_slice(alloc, b)?)?),
+            node: Node::Text(Rc::new(alloc, codes)?),
             height: 0,
-            weight: b.len() as u64 + 5,
+            weight: length as u64 + 5,
         })
     }
 
@@ -83,6 +94,18 @@ impl Value {
         match &self.node {
             Node::Number(n) => Some(n),
             _ => None,
+        }
+    }
+
+    /// The characters of a text, as one piece. Empty where the value is no text.
+    pub fn codes(&self) -> &[u8]
+        ensures codes { result.now ≡ codes_of self.now }
+        ensures characters { AreCharacters result.now }
+        ensures short { length result.now ≤ MOST_ELEMENTS }
+    {
+        match &self.node {
+            Node::Text(codes) => codes.as_slice(),
+            _ => &[],
         }
     }
 

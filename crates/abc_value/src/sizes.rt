@@ -3,6 +3,7 @@ ghost use Rattle.std.specs.Prelude.{◌≡◌, ℕ, ◌<◌, ◌≤◌, ◌*◌,
 ghost use Rattle.std.specs.List.{between};
 ghost use Rattle.abc_value.specs.Tree.{compound, table, trees, pairs};
 ghost use Rattle.abc_value.specs.View.{as_pair};
+ghost use Rattle.abc_value.specs.inner.Alike.{AreAlike};
 ghost use Rattle.abc_value.specs.inner.Heights.{others_height};
 ghost use Rattle.abc_value.specs.Sizes.{height_of, weight_of, sizes_fault, trees_height, pairs_height, trees_weight, pairs_weight, IsMakingOf};
 ghost use Rattle.abc_value.specs.Regular.{IsRegular, AllRegular, AllRegularPairs};
@@ -44,6 +45,27 @@ pub(crate) fn sizes_of(parts: &Chunks<Value>) -> Result<(u32, u64), ValueFault>
     }
     let weight = total_weight(parts) + 5;
     let height = tallest(parts, MOST_VALUE_HEIGHT + 1);
+    check_sizes(parts.len(), height, weight)?;
+    Ok((height, weight))
+}
+
+/// The height and the weight of a list of these parts, each of which has the sizes of the first. TooLong, TooDeep and TooLarge
+/// where a size of it is past its bound.
+pub(crate) fn sizes_of_alike(parts: &Chunks<Value>) -> Result<(u32, u64), ValueFault>
+    requires { AreAlike parts.now }
+    ensures height { IfOk result (λ p. p.0 ≡ trees_height (trees parts.now)) }
+    ensures weight { IfOk result (λ p. p.1 ≡ trees_weight (trees parts.now) + 5) }
+    ensures few { IfOk result (λ _. length parts.now ≤ MOST_ELEMENTS) }
+    ensures sizes { IsMakingOf (compound (trees parts.now)) result }
+{
+    if parts.is_empty() {
+        return Ok((0, 5));
+    }
+    if parts.len() > MOST_ELEMENTS {
+        return Err(ValueFault::TooLong);
+    }
+    let height = parts[0].height() + 1;
+    let weight = parts[0].weight() * parts.len() as u64 + 5;
     check_sizes(parts.len(), height, weight)?;
     Ok((height, weight))
 }

@@ -22,7 +22,7 @@ pub(crate) struct TableShapes {
 }
 
 impl TableShapes {
-    /// Of these entries.
+    /// What is kept of these entries.
     pub(crate) fn of(alloc: Global, entries: &Chunks<Entry>) -> Result<Rc<TableShapes>, OutOfMemory>
         ensures { IfOk result (λ s. KeepsBoth s.value entries.now) }
     {
@@ -31,7 +31,7 @@ impl TableShapes {
         Ok(Rc::new(alloc, TableShapes { keys, associates })?)
     }
 
-    /// Of one entry more than the `others`, wherever it stands.
+    /// What is kept of one entry more than the `others`, wherever it stands.
     pub(crate) fn with(
         &self,
         alloc: Global,
@@ -45,7 +45,7 @@ impl TableShapes {
         Ok(Rc::new(alloc, TableShapes { keys, associates })?)
     }
 
-    /// Of the entries without the one at this place.
+    /// What is kept of the entries without the one at this place.
     pub(crate) fn without(
         &self,
         alloc: Global,
@@ -60,7 +60,7 @@ impl TableShapes {
         Ok(Rc::new(alloc, TableShapes { keys, associates })?)
     }
 
-    /// Of the entries with another in place of the one at this place.
+    /// What is kept of the entries with another in place of the one at this place.
     pub(crate) fn replaced(
         &self,
         alloc: Global,
@@ -109,21 +109,21 @@ fn table_shape(
     Ok(Some(Shape::table(alloc, keys, associates)?))
 }
 
-/// Of all keys.
+/// What is kept of all keys.
 fn keys_of(alloc: Global, entries: &Chunks<Entry>) -> Result<Common, OutOfMemory>
     ensures { IfOk result (λ c. Keeps c (entry_keys entries.now)) }
 {
     Common::of_all(alloc, &Column::Keys(entries))
 }
 
-/// Of all associates.
+/// What is kept of all associates.
 fn associates_of(alloc: Global, entries: &Chunks<Entry>) -> Result<Common, OutOfMemory>
     ensures { IfOk result (λ c. Keeps c (entry_associates entries.now)) }
 {
     Common::of_all(alloc, &Column::Associates(entries))
 }
 
-/// Of the keys without the one at this place.
+/// What is kept of the keys without the one at this place.
 fn keys_without(
     alloc: Global,
     kept: &Common,
@@ -136,7 +136,7 @@ fn keys_without(
     kept.without(alloc, &Column::Keys(entries), place)
 }
 
-/// Of the associates without the one at this place.
+/// What is kept of the associates without the one at this place.
 fn associates_without(
     alloc: Global,
     kept: &Common,
@@ -149,7 +149,7 @@ fn associates_without(
     kept.without(alloc, &Column::Associates(entries), place)
 }
 
-/// Of the keys with `key` in place of the one at this place.
+/// What is kept of the keys with `key` in place of the one at this place.
 fn keys_replaced(
     alloc: Global,
     kept: &Common,
@@ -163,7 +163,7 @@ fn keys_replaced(
     kept.replaced(alloc, &Column::Keys(entries), place, key)
 }
 
-/// Of the associates with `associate` in place of the one at this place.
+/// What is kept of the associates with `associate` in place of the one at this place.
 fn associates_replaced(
     alloc: Global,
     kept: &Common,

@@ -1,9 +1,11 @@
 -- Lists in order that are made at once, and ranges.
-use Rattle.std.proofs.Common.{◌≡◌, ℕ, zero, suc, ◌+◌, ◌<◌, ◌^◌, ℤ, pos, ◌*ℤ◌, List, [], ◌∷◌, ◌++◌, length, refl, sym, ap, ◌∙◌, arith, Some, None, Err, inl, inr, add-one}
-use Rattle.std.specs.Prelude.{◌+ℤ◌, ◌-ℤ◌, ◌<ℤ◌, unsigned_abs}
+use Rattle.std.proofs.Common.{◌≡◌, ℕ, zero, suc, ◌+◌, ◌<◌, ◌≤◌, ◌^◌, ℤ, pos, ◌*ℤ◌, List, [], ◌∷◌, ◌++◌, length, refl, sym, ap, ◌∙◌, arith, Some, None, inl, inr, add-one}
+use Rattle.std.specs.Prelude.{◌+ℤ◌, ◌<ℤ◌, unsigned_abs}
+use Rattle.std.specs.List.{insert}
 use Rattle.std.specs.declared.cmp.Ordering.TheVariants.{Less, Equal}
 use Rattle.std.specs.Ordering.{nat_cmp, ordering_then}
 use Rattle.std.proofs.lemmas.Int.{ints, to_z-of_z}
+use Rattle.std.proofs.lemmas.List.Edits.{insert_end}
 use mir.Val.{to_z, of_z, SFits}
 use mir.Syntax.{w128}
 use Rattle.std.proofs.Common.{rules}
@@ -16,7 +18,7 @@ use Rattle.abc_value.specs.Tree.{Tree, Trees, number, text, compound, list, tree
 use Rattle.abc_value.specs.Order.{order}
 use Rattle.abc_value.specs.Sizes.{height_of, weight_of, trees_height, trees_weight, sizes_fault, size_fault}
 use Rattle.abc_value.specs.Regular.{IsRegular, AllRegular, IsOrdered}
-use Rattle.abc_value.specs.Items.{IsAnswer, if_small, by_fault, numbers_from, characters_from, count_of}
+use Rattle.abc_value.specs.Items.{numbers_from, characters_from}
 use Rattle.abc_value.proofs.trees.Rows.{count_trees}
 use Rattle.abc_value.proofs.lists.Adding.{AreSmall, small_sizes}
 use Rattle.abc_value.proofs.trees.Making.{compound_too_long}
@@ -27,7 +29,7 @@ pub list_fault : (ts : Trees) → size_fault (compound ts) ≡ size_fault (list 
 unfolding size_fault
 list_fault ts = refl
 
-list_too_long : (xs : List Tree) → MOST_ELEMENTS < length xs → size_fault (list (trees xs)) ≡ Some TooLong
+pub list_too_long : (xs : List Tree) → MOST_ELEMENTS < length xs → size_fault (list (trees xs)) ≡ Some TooLong
 list_too_long xs h = sym (list_fault (trees xs)) ∙ compound_too_long xs h
 
 pub list_invariant : (xs : List Tree) (h w : ℕ) → IsOrdered (trees xs) → AllRegular (trees xs) → h ≡ trees_height (trees xs) → w ≡ trees_weight (trees xs) + 5 → sizes_fault (length xs) h w ≡ None → (h ≡ height_of (list (trees xs))) × (w ≡ weight_of (list (trees xs))) × IsRegular (list (trees xs))
@@ -59,6 +61,10 @@ numbers_ordered p (suc zero) = tt
 numbers_ordered p (suc (suc n)) = (less_not_greater _ (next_greater p), numbers_ordered (p +ℤ pos 1) (suc n))
 
 -- ---- characters
+pub characters_length : (c n : ℕ) → length (characters_from c n) ≡ n
+characters_length c zero = refl
+characters_length c (suc n) = ap suc (characters_length (c + 1) n)
+
 pub characters_more : (c n : ℕ) → characters_from c n ++ text ((c + n) ∷ []) ∷ [] ≡ characters_from c (suc n)
 characters_more c zero = let e : c + 0 ≡ c = omega arith in ap (λ d. text (d ∷ []) ∷ []) e
 characters_more c (suc n) =
@@ -79,18 +85,22 @@ unfolding IsNumber
 whole_fits x n (inl i) e = let w = whole_of-some x n e in omega (arith, i.1, ap unsigned_abs w.1)
 whole_fits x n (inr i) e = let w = whole_of-some x n e in absurd (omega (arith, i.0, w.0))
 
-pub too_many_numbers : (p q : ℤ) (n : ℕ) → MOST_ELEMENTS < n → n ≡ count_of (q -ℤ p +ℤ pos 1) → IsAnswer (if_small (list (trees (numbers_from p (count_of (q -ℤ p +ℤ pos 1)))))) (Err TooLong)
-too_many_numbers p q n h e =
-    let t = list (trees (numbers_from p (count_of (q -ℤ p +ℤ pos 1)))) in
-    inl (ap (by_fault t) (sym (list_too_long (numbers_from p (count_of (q -ℤ p +ℤ pos 1))) (omega (arith, numbers_length p (count_of (q -ℤ p +ℤ pos 1)))))))
-
-pub push_number : (p : ℤ) (n : ℕ) (xs ys : List Tree) (v : Tree) → xs ≡ numbers_from p n → v ≡ number (whole_number (p +ℤ pos n)) → ys ≡ xs ++ v ∷ [] → ys ≡ numbers_from p (n + 1)
+-- so many numbers and one more
+pub push_number : (p : ℤ) (n : ℕ) (xs ys : List Tree) (v : Tree) → xs ≡ numbers_from p n → v ≡ number (whole_number (p +ℤ pos n)) → ys ≡ insert xs n v → ys ≡ numbers_from p (n + 1)
 push_number p n xs ys v e f g =
-    g ∙ (λ i. e i ++ f i ∷ []) ∙ numbers_more p n ∙ ap (numbers_from p) (sym (add-one n))
+    let end : n ≡ length xs = sym (numbers_length p n) ∙ ap length (sym e) in
+    g ∙ ap (λ k. insert xs k v) end ∙ insert_end xs v ∙ (λ i. e i ++ f i ∷ []) ∙ numbers_more p n ∙ ap (numbers_from p) (sym (add-one n))
 
-pub push_character : (c n : ℕ) (xs ys : List Tree) (v : Tree) → xs ≡ characters_from c n → v ≡ text ((c + n) ∷ []) → ys ≡ xs ++ v ∷ [] → ys ≡ characters_from c (n + 1)
+pub push_character : (c n : ℕ) (xs ys : List Tree) (v : Tree) → xs ≡ characters_from c n → v ≡ text ((c + n) ∷ []) → ys ≡ insert xs n v → ys ≡ characters_from c (n + 1)
 push_character c n xs ys v e f g =
-    g ∙ (λ i. e i ++ f i ∷ []) ∙ characters_more c n ∙ ap (characters_from c) (sym (add-one n))
+    let end : n ≡ length xs = sym (characters_length c n) ∙ ap length (sym e) in
+    g ∙ ap (λ k. insert xs k v) end ∙ insert_end xs v ∙ (λ i. e i ++ f i ∷ []) ∙ characters_more c n ∙ ap (characters_from c) (sym (add-one n))
+
+pub numbers_end : (p : ℤ) (n : ℕ) (xs : List Tree) → xs ≡ numbers_from p n → n ≤ length xs
+numbers_end p n xs e = omega (arith, ap length e, numbers_length p n)
+
+pub characters_end : (c n : ℕ) (xs : List Tree) → xs ≡ characters_from c n → n ≤ length xs
+characters_end c n xs e = omega (arith, ap length e, characters_length c n)
 
 -- a number of 127 bits is passed as it is
 pub passed : (z : ℤ) → unsigned_abs z < 2 ^ 127 → unsigned_abs (to_z w128 (of_z w128 z)) < 2 ^ 127

@@ -1,9 +1,13 @@
--- A list or a table that is a value has no more elements or pairs than a value may have.
-use Rattle.std.proofs.Common.{◌≡◌, ◌≤◌, List, length, subst, arith}
+-- A text, a list or a table that is a value has no more characters, elements or pairs than a value may have.
+use Rattle.std.proofs.Common.{◌≡◌, ◌≤◌, ℕ, List, length, subst, arith}
 use Rattle.abc_num.specs.declared.limits.TheConstants.{MOST_ELEMENTS}
-use Rattle.abc_value.specs.Tree.{Tree, list, table, trees, pairs}
-use Rattle.abc_value.specs.Regular.{IsRegular}
+use Rattle.abc_value.specs.Tree.{Tree, text, list, table, trees, pairs}
+use Rattle.abc_value.specs.Regular.{IsRegular, AreCharacters}
 use Rattle.abc_value.proofs.trees.Rows.{count_trees, count_pairs_pairs}
+
+pub text_short : (b : List ℕ) (t : Tree) → t ≡ text b → IsRegular t → AreCharacters b × (length b ≤ MOST_ELEMENTS)
+unfolding IsRegular
+text_short b t e h = let regular = subst IsRegular e h in (regular.1, regular.0.0)
 
 pub list_short : (xs : List Tree) (t : Tree) → t ≡ list (trees xs) → IsRegular t → length xs ≤ MOST_ELEMENTS
 unfolding IsRegular

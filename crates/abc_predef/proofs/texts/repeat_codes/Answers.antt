@@ -5,7 +5,7 @@ use Rattle.abc_predef.proofs.texts.repeat_codes.Goals as goal
 
 pub returns-then-is_empty-clause-ok : goal.returns-then-is_empty-clause-ok
 returns-then-is_empty-clause-ok c =
-    c.new-all.ensures.items ∙ sym (ap (repeat c.args.count) (empty_list c.args.part.now (sym c.is_empty.ensures ∙ c.if-is_empty.true)) ∙ repeat-none c.args.count)
+    c.new.ensures.items ∙ sym (ap (repeat c.args.count) (empty_list c.args.part.now (sym c.is_empty.ensures ∙ c.if-is_empty.true)) ∙ repeat-none c.args.count)
 
 pub loop-preserved : goal.loop-preserved
 loop-preserved c =
