@@ -140,6 +140,9 @@ fn range(rt: &HostRuntime, x: &Value, y: &Value) -> Result<(), Fault> {
     if !have_range(x, y) {
         return say(rt, "Wrong");
     }
+    if let Err(fault) = Value::check_range(x, y) {
+        return print_answer(rt, Err(RunFault::from(fault)));
+    }
     match Value::range(rt.alloc(), x, y) {
         Ok(all) => print_value(rt, &all),
         Err(fault) => print_answer(rt, Err(RunFault::from(fault))),
