@@ -3,11 +3,11 @@ use Rattle.std.specs.Prelude.{ℕ, zero, suc, ◌+◌, Bool, not, ◌||◌, List
 use Rattle.std.specs.Int.{w64, to_be_bytes, from_be_bytes}
 use Rattle.abc_journal.specs.declared.layout.Layout.{Layout}
 use Rattle.abc_journal.specs.declared.layout.Live.{Live}
-use Rattle.abc_journal.specs.declared.format.TheConstants.{MAGIC, HEAD_BYTES, FRESH_BYTES, FIRST_SLOT, SECOND_SLOT, OPEN, VERSION, RECORD_EXTRA, FRESH_IMAGE}
+use Rattle.abc_journal.specs.declared.format.TheConstants.{MAGIC, GATE_BYTES, NUMBER_BYTES, HEAD_BYTES, FRESH_BYTES, FIRST_SLOT, START_IN_SLOT, SECOND_SLOT, OPEN, VERSION, RECORD_EXTRA, FRESH_IMAGE}
 
--- the number that the eight bytes at this place spell
+-- the number at this place
 abbrev pub word_at : List ℕ → ℕ → ℕ
-word_at bytes at = from_be_bytes w64 (take 8 (drop at bytes))
+word_at bytes at = from_be_bytes w64 (take NUMBER_BYTES (drop at bytes))
 
 -- whether the gate of a record at this place is open
 abbrev pub record_open : List ℕ → ℕ → Bool
@@ -26,7 +26,7 @@ slot_open bytes at = is_some (version_at bytes at)
 
 -- the slot at this place: a gate, a generation, the start of a region; and whether the other slot is open
 abbrev pub slot_at : List ℕ → ℕ → ℕ → Bool → Live
-slot_at head at number other = record { slot = number; generation = word_at head (at + 1); start = word_at head (at + 9); other = other }
+slot_at head at number other = record { slot = number; generation = word_at head (at + GATE_BYTES); start = word_at head (at + START_IN_SLOT); other = other }
 
 -- by the versions of both slots: the open slot of the greater generation, slot 0 where they are equal
 abbrev pub live_among : Option ℕ → Option ℕ → Live → Live → Result Live ℕ
@@ -54,10 +54,10 @@ with_first payload (Err at) = Err at
 
 -- the payload of the record at this place, and where the record ends
 abbrev pub payload_at : List ℕ → ℕ → List ℕ
-payload_at image at = take (word_at image (at + 1)) (drop (at + RECORD_EXTRA) image)
+payload_at image at = take (word_at image (at + GATE_BYTES)) (drop (at + RECORD_EXTRA) image)
 
 abbrev pub record_end : List ℕ → ℕ → ℕ
-record_end image at = at + RECORD_EXTRA + word_at image (at + 1)
+record_end image at = at + RECORD_EXTRA + word_at image (at + GATE_BYTES)
 
 -- the region from the gate at this place on, of fewer records than the first number; or the place of the gate
 -- that stands in the head or past the image, or whose record ends past the image

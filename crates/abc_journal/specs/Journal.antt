@@ -6,7 +6,7 @@ use Rattle.abc_journal.specs.declared.faults.BeginFault.{BeginFault}
 use Rattle.abc_journal.specs.declared.faults.BeginFault.TheVariants as begin
 use Rattle.abc_journal.specs.declared.faults.AppendFault.{AppendFault}
 use Rattle.abc_journal.specs.declared.faults.AppendFault.TheVariants as append
-use Rattle.abc_journal.specs.declared.format.TheConstants.{FRESH_BYTES, RECORD_EXTRA}
+use Rattle.abc_journal.specs.declared.format.TheConstants.{FRESH_BYTES, GATE_BYTES, RECORD_EXTRA}
 use Rattle.abc_journal.specs.Image.{settled_image, layout_of, payloads_of}
 
 -- the image is not to be replaced by the fresh one, and has this layout
@@ -16,7 +16,7 @@ pub record HasLayout (image : List ℕ) (layout : Layout) : Type 0 where
 
 -- the length of the image with one record more, of so many bytes: its payload and the next gate too
 abbrev pub need_of : Layout → ℕ → ℕ
-need_of layout bytes = max layout.size (layout.gate + (RECORD_EXTRA + 1) + bytes)
+need_of layout bytes = max layout.size (layout.gate + (RECORD_EXTRA + GATE_BYTES) + bytes)
 
 -- the layout with one record more
 abbrev pub after_record : Layout → ℕ → Layout

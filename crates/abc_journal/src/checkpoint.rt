@@ -48,11 +48,11 @@ pub(crate) fn close_other<H: Host>(host: &mut H, layout: Layout) -> Result<(), F
 
 /// Writes the region: gate and length, then the payload, then the closing gate.
 fn write_region<H: Host>(host: &mut H, place: u64, payload: &[u8]) -> Result<(), Failed>
-    requires room { place + (RECORD_EXTRA + 1) + length payload.now < 2 ^ 64 }
+    requires room { place + (RECORD_EXTRA + GATE_BYTES) + length payload.now < 2 ^ 64 }
     requires place { H.tells_image → place ≤ length (H.now host.old).image }
     ensures image { H.tells_image → OnOk result ((H.now host.new).image ≡ written (H.now host.old).image place (region_of payload.now)) }
-    ensures stops { Leaves H.clock H.stopped host.old host.new (λ c s. (d : List ℕ) × H.stopped host.old (H.clock host.old) d s × Torn place (RECORD_EXTRA + 1 + length payload.now) d c) }
-    ensures now { (c s : List ℕ) → H.stopped host.new (H.clock host.new) c s → (d : List ℕ) × H.stopped host.old (H.clock host.old) d s × Torn place (RECORD_EXTRA + 1 + length payload.now) d c }
+    ensures stops { Leaves H.clock H.stopped host.old host.new (λ c s. (d : List ℕ) × H.stopped host.old (H.clock host.old) d s × Torn place (RECORD_EXTRA + GATE_BYTES + length payload.now) d c) }
+    ensures now { (c s : List ℕ) → H.stopped host.new (H.clock host.new) c s → (d : List ℕ) × H.stopped host.old (H.clock host.old) d s × Torn place (RECORD_EXTRA + GATE_BYTES + length payload.now) d c }
     ensures rest { KeepsButStore (H.now host.old) (H.now host.new) }
     ensures cause { OnErr result (RoseByOne (H.now host.old).store_faults (H.now host.new).store_faults) }
     ensures faultless { OnOk result ((H.now host.new).store_faults ≡ (H.now host.old).store_faults) }
@@ -71,7 +71,7 @@ pub(crate) fn stage<H: Host>(
     place: u64,
     payload: &[u8],
 ) -> Result<(), Failed>
-    requires room { place + (RECORD_EXTRA + 1) + length payload.now < 2 ^ 64 }
+    requires room { place + (RECORD_EXTRA + GATE_BYTES) + length payload.now < 2 ^ 64 }
     requires rises { layout.generation + 1 < 2 ^ 64 }
     requires shut { layout.other ≡ false }
     requires place { IsPlace layout place (length payload.now) }
@@ -87,7 +87,7 @@ pub(crate) fn stage<H: Host>(
 {
     write_region(host, place, payload)?;
     let slot = slot_bytes(layout.generation + 1, place);
-    write_through(host, other_place(layout.slot) + 1, &slot)?;
+    write_through(host, other_place(layout.slot) + GATE_BYTES as u64, &slot)?;
     Ok(())
 }
 
@@ -116,9 +116,9 @@ pub(crate) fn publish<H: Host>(
     place: u64,
     payload: &[u8],
 ) -> Result<(), Failed>
-    requires room { place + (RECORD_EXTRA + 1) + length payload.now < 2 ^ 64 }
+    requires room { place + (RECORD_EXTRA + GATE_BYTES) + length payload.now < 2 ^ 64 }
     requires slot { H.tells_image → place_of_other layout.slot ≤ length (H.now host.old).image }
-    requires within { H.tells_image → place + (RECORD_EXTRA + 1) + length payload.now ≤ length (H.now host.old).image }
+    requires within { H.tells_image → place + (RECORD_EXTRA + GATE_BYTES) + length payload.now ≤ length (H.now host.old).image }
     ensures image { H.tells_image → OnOk result ((H.now host.new).image ≡ published (H.now host.old).image layout place (length payload.now)) }
     ensures quiet { H.tells_image → OnOk result (IsQuiet H.clock H.stopped host.new (H.now host.new).image) }
     ensures stops { H.tells_image → (base : List ℕ) (ps : List (List ℕ)) → IsStaged base (H.now host.old).image layout place payload.now ps

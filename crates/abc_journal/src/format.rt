@@ -4,16 +4,29 @@ ghost use Rattle.abc_journal.specs.Format.{IsFormat};
 /// `ABCSTOR1`, the first eight bytes, as a number.
 pub const MAGIC: u64 = 0x4142_4353_544f_5231;
 
+/// The bytes of a gate.
+pub const GATE_BYTES: usize = 1;
+
+/// The bytes of a number: the magic, a generation, the start of a region and the length of a payload are one each.
+pub const NUMBER_BYTES: usize = 8;
+
 /// The head has the magic and two slots; the bytes behind these are not read. Regions begin past it.
 pub const HEAD_BYTES: usize = 64;
 
 /// The head and one closed gate.
-pub const FRESH_BYTES: usize = 65;
+pub const FRESH_BYTES: usize = HEAD_BYTES + GATE_BYTES;
 
-/// The places of the two slots. A slot is a gate, a generation and the start of a region.
-pub const FIRST_SLOT: usize = 8;
+/// The place of the first slot, behind the magic. A slot is a gate, a generation and the start of a region.
+pub const FIRST_SLOT: usize = NUMBER_BYTES;
 
-pub const SECOND_SLOT: usize = 25;
+/// What a slot has in front of the start of its region: its gate and its generation.
+pub const START_IN_SLOT: usize = GATE_BYTES + NUMBER_BYTES;
+
+/// What a slot has behind its gate: its generation and the start of its region.
+pub const SLOT_NUMBERS: usize = 2 * NUMBER_BYTES;
+
+/// The place of the second slot, behind the first.
+pub const SECOND_SLOT: usize = FIRST_SLOT + GATE_BYTES + SLOT_NUMBERS;
 
 /// The gate of a record is open where it is this byte, and closed where it is another.
 pub const OPEN: u8 = 1;
@@ -21,11 +34,8 @@ pub const OPEN: u8 = 1;
 /// The gate of a slot is the version of its region: a slot with another byte is closed.
 pub const VERSION: u8 = 1;
 
-/// A gate is one byte.
-pub const GATE_BYTES: usize = 1;
-
-/// What a record has in front of its payload: its gate, and the length in eight bytes.
-pub const RECORD_EXTRA: usize = 9;
+/// What a record has in front of its payload: its gate, and the length.
+pub const RECORD_EXTRA: usize = GATE_BYTES + NUMBER_BYTES;
 
 /// The fresh store: slot 0 open with generation 1 and start 64, and a closed gate at 64.
 pub const FRESH_IMAGE: [u8; FRESH_BYTES] = [

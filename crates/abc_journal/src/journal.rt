@@ -8,7 +8,7 @@ ghost use Rattle.abc_journal.specs.Checkpoint.{room_for, behind_need, after_chec
 ghost use Rattle.abc_journal.specs.Commit.{AnswersTo, recorded, checkpointed};
 
 use crate::checkpoint::{close_other, publish, stage};
-use crate::format::{FRESH_BYTES, OPEN, RECORD_EXTRA};
+use crate::format::{FRESH_BYTES, GATE_BYTES, OPEN, RECORD_EXTRA};
 use crate::opening::{FRESH, read_image, write_fresh};
 use crate::write::{fill_record, write_through};
 use crate::{AppendFault, BeginFault, Bounds, Layout};
@@ -150,7 +150,7 @@ impl Journal {
         ensures layout { H.tells_image → OnOk result (HasLayout (H.now host.new).image self.new.layout) }
         ensures durable { H.tells_image → OnOk result (IsQuiet H.clock H.stopped host.new (H.now host.new).image) }
         ensures bytes { H.tells_image → OnOk result ((H.now host.new).image
-            ≡ written (written (H.now host.old).image (self.old.layout.gate + 1) (behind_gate payload.now)) self.old.layout.gate (OPEN ∷ [])) }
+            ≡ written (written (H.now host.old).image (self.old.layout.gate + GATE_BYTES) (behind_gate payload.now)) self.old.layout.gate (OPEN ∷ [])) }
 
         ensures layouts { AnswersTo result self.new.layout (recorded self.old.bounds self.old.layout (length payload.now)) }
         ensures full { IsFull result ↔ (self.old.bounds.image < need_of self.old.layout (length payload.now)) }
@@ -184,7 +184,7 @@ impl Journal {
         // Until both writes are through, the layout may not be the image's.
         self.sound = false;
         // The record first, behind a gate that is still closed; then the gate.
-        write_through(host, self.layout.gate + 1, &self.buffer)?;
+        write_through(host, self.layout.gate + GATE_BYTES as u64, &self.buffer)?;
         write_through(host, self.layout.gate, &[OPEN])?;
         self.layout = self.layout.with_record(payload.len());
         self.sound = true;

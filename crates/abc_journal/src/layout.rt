@@ -93,7 +93,7 @@ impl Layout {
 
     /// The layout with a checkpoint at this place, whose payload has so many bytes.
     pub(crate) fn with_checkpoint(&self, place: u64, payload: usize) -> Layout
-        requires end { place + (RECORD_EXTRA + 1) + payload < 2 ^ 64 }
+        requires end { place + (RECORD_EXTRA + GATE_BYTES) + payload < 2 ^ 64 }
         requires rises { self.now.generation + 1 < 2 ^ 64 }
         ensures { result ≡ after_checkpoint self.now place payload }
     {

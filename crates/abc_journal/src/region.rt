@@ -7,7 +7,7 @@ ghost use Rattle.abc_journal.specs.Journal.{IfNotAStore, IsNotAStore};
 ghost use Rattle.abc_journal.specs.inner.Region.{IsFound, IsCutShort, IsRegion};
 
 use crate::BeginFault;
-use crate::format::{HEAD_BYTES, OPEN, RECORD_EXTRA};
+use crate::format::{GATE_BYTES, HEAD_BYTES, NUMBER_BYTES, OPEN, RECORD_EXTRA};
 use abc_num::Text;
 use abc_outside::{Failed, Host};
 use byteorder::{BigEndian, ByteOrder};
@@ -31,7 +31,7 @@ fn gate_open<H: Host>(host: &mut H, at: u64) -> Result<bool, Failed>
 
 /// The length that stands at this place.
 fn length_at<H: Host>(host: &mut H, at: u64) -> Result<u64, Failed>
-    requires { H.tells_image → at + 8 ≤ length (H.now host.old).image }
+    requires { H.tells_image → at + NUMBER_BYTES ≤ length (H.now host.old).image }
     ensures length { H.tells_image → IfOk result (λ n. n ≡ word_of (H.now host.old).image at) }
     ensures image { (H.now host.new).image ≡ (H.now host.old).image }
     ensures rest { KeepsButStore (H.now host.old) (H.now host.new) }
@@ -40,7 +40,7 @@ fn length_at<H: Host>(host: &mut H, at: u64) -> Result<u64, Failed>
     ensures cause { OnErr result (RoseByOne (H.now host.old).store_faults (H.now host.new).store_faults) }
     ensures faultless { OnOk result ((H.now host.new).store_faults ≡ (H.now host.old).store_faults) }
 {
-    let mut word = [0; 8];
+    let mut word = [0; NUMBER_BYTES];
     host.read_at(at, &mut word)?;
     Ok(BigEndian::read_u64(&word))
 }
@@ -69,7 +69,7 @@ fn record_at<H: Host>(
     if room < RECORD_EXTRA as u64 {
         return Err(BeginFault::NotAStore { at });
     }
-    let length = length_at(host, at + 1)?;
+    let length = length_at(host, at + GATE_BYTES as u64)?;
     let room = room - RECORD_EXTRA as u64;
     if room < length {
         return Err(BeginFault::NotAStore { at });
@@ -78,7 +78,7 @@ fn record_at<H: Host>(
         return Err(BeginFault::NotAStore { at: size });
     }
     // The payload and the next gate in one call.
-    let mut bytes = vec![in alloc; 0; length as usize + 1]?;
+    let mut bytes = vec![in alloc; 0; length as usize + GATE_BYTES]?;
     host.read_at(at + RECORD_EXTRA as u64, &mut bytes)?;
     let next_open = bytes.pop() == Some(OPEN);
     Ok((Text::from_vec(bytes), next_open))

@@ -3,13 +3,16 @@ ghost use Rattle.std.specs.Prelude.{◌≡◌, ◌≤◌, ◌+◌, length};
 ghost use Rattle.abc_journal.specs.Image.{word_at as word_of, slot_version as version_of, slot_at as slot_of, live_slot as live_of};
 ghost use Rattle.abc_journal.specs.Checkpoint.{other_place as place_of_other, slot_bytes as bytes_of_slot};
 
-use crate::format::{FIRST_SLOT, HEAD_BYTES, MAGIC, SECOND_SLOT, VERSION};
+use crate::format::{
+    FIRST_SLOT, GATE_BYTES, HEAD_BYTES, MAGIC, NUMBER_BYTES, SECOND_SLOT, SLOT_NUMBERS,
+    START_IN_SLOT, VERSION,
+};
 use crate::layout::Live;
 use byteorder::{BigEndian, ByteOrder};
 
-/// The number that the eight bytes at this place spell.
+/// The number at this place.
 fn word_at(bytes: &[u8], at: usize) -> u64
-    requires { at + 8 ≤ length bytes.now }
+    requires { at + NUMBER_BYTES ≤ length bytes.now }
     ensures { result ≡ word_of bytes.now at }
 {
     BigEndian::read_u64(&bytes[at..])
@@ -29,8 +32,8 @@ fn slot_at(head: &[u8; HEAD_BYTES], at: usize, slot: u8, other: bool) -> Live
 {
     Live {
         slot,
-        generation: word_at(head, at + 1),
-        start: word_at(head, at + 9),
+        generation: word_at(head, at + GATE_BYTES),
+        start: word_at(head, at + START_IN_SLOT),
         other,
     }
 }
@@ -67,11 +70,11 @@ pub(crate) fn other_place(slot: u8) -> u64
 }
 
 /// What stands behind the gate of a slot: a generation and the start of a region.
-pub(crate) fn slot_bytes(generation: u64, start: u64) -> [u8; 16]
+pub(crate) fn slot_bytes(generation: u64, start: u64) -> [u8; SLOT_NUMBERS]
     ensures { result ≡ bytes_of_slot generation start }
 {
-    let mut bytes = [0; 16];
+    let mut bytes = [0; SLOT_NUMBERS];
     BigEndian::write_u64(&mut bytes, generation);
-    BigEndian::write_u64(&mut bytes[8..], start);
+    BigEndian::write_u64(&mut bytes[NUMBER_BYTES..], start);
     bytes
 }

@@ -5,7 +5,7 @@ ghost use Rattle.abc_outside.specs.Outside.{RoseByOne, KeepsButStore};
 ghost use Rattle.abc_outside.specs.Stop.{written, Torn, Leaves};
 ghost use Rattle.abc_journal.specs.Image.{behind_gate};
 
-use crate::format::RECORD_EXTRA;
+use crate::format::{NUMBER_BYTES, RECORD_EXTRA};
 use abc_outside::{Failed, Host};
 use byteorder::{BigEndian, ByteOrder};
 use std::alloc::AllocError;
@@ -37,10 +37,10 @@ fn put_behind(list: &mut Vec<u8>, bytes: &[u8])
 }
 
 /// The length of a payload as it stands in a record.
-fn length_bytes(payload: usize) -> [u8; 8]
+fn length_bytes(payload: usize) -> [u8; NUMBER_BYTES]
     ensures { result ≡ to_be_bytes w64 payload }
 {
-    let mut bytes = [0; 8];
+    let mut bytes = [0; NUMBER_BYTES];
     BigEndian::write_u64(&mut bytes, payload as u64);
     bytes
 }

@@ -6,6 +6,9 @@ ghost use Rattle.abc_record.specs.inner.Reading.{four_of, eight_of, counted_of, 
 
 use abc_num::limits::{FIRST_CHARACTER, LAST_CHARACTER};
 
+/// 2^64: a number of 128 bits is two of 64.
+pub(crate) const HALF: u128 = 1 << 64;
+
 /// The number in the four bytes at the front, and what follows it.
 #[tactic(auto, unfolding(crate::specs::inner::Reading::four_of))]
 pub(crate) fn four_of(bytes: &[u8]) -> Option<(u32, &[u8])>

@@ -5,6 +5,7 @@ mod bytes;
 mod change;
 mod faults;
 pub mod laws;
+mod lines;
 mod names;
 mod reading;
 mod size;
@@ -14,6 +15,7 @@ mod writing;
 
 pub use change::Change;
 pub use faults::RecordFault;
+pub use lines::is_kept_line;
 pub use names::is_kept_name;
 pub use reading::read_changes;
 pub use size::size_of;

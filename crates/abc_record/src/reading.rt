@@ -5,14 +5,14 @@ ghost use Rattle.abc_record.specs.declared.change.Change.{Change};
 ghost use Rattle.abc_record.specs.Kept.{IsSpelling};
 ghost use Rattle.abc_record.specs.Place.{IsWrongAt};
 ghost use Rattle.abc_record.specs.inner.Reading.{Gives, times, are_so_many, line_of, lines_of, target_of, dropped_target_of, unit_of, dropped_unit_of, tagged_change, change_of, leading};
-ghost use Rattle.abc_record.specs.KeptTests.{is_flush, is_kept_line};
 
-use crate::bytes::{are_characters, counted_of, four_of, text_of};
+use crate::bytes::{counted_of, four_of, text_of};
 use crate::faults::ReadFault;
+use crate::lines::is_kept_line;
 use crate::names::name_of;
 use crate::values::value_of;
 use crate::{Change, RecordFault, tags};
-use abc_num::limits::{MOST_LINE_BYTES, MOST_LINES, MOST_VALUE_HEIGHT};
+use abc_num::limits::{MOST_LINES, MOST_VALUE_HEIGHT};
 use abc_num::{Items, Line, OutOfMemory, Text};
 use std::alloc::Global;
 
@@ -189,17 +189,4 @@ fn line_of(alloc: Global, bytes: &[u8]) -> Result<(Line, &[u8]), ReadFault>
         long: false,
     };
     Ok((line, rest))
-}
-
-/// Characters that a line has room for, without a space in front.
-fn is_kept_line(text: &[u8]) -> bool
-    ensures { result ≡ is_kept_line text.now }
-{
-    are_characters(text) && text.len() <= MOST_LINE_BYTES && is_flush(text)
-}
-
-fn is_flush(text: &[u8]) -> bool
-    ensures { result ≡ is_flush text.now }
-{
-    text.first().is_none_or(|b| *b != b' ')
 }

@@ -6,15 +6,12 @@ ghost use Rattle.abc_value.specs.Order.{order};
 ghost use Rattle.abc_value.specs.Sizes.{IsMakingOf};
 ghost use Rattle.abc_record.specs.inner.Reading.{Gives, AreRegularPairs, times, with_denominator, fraction_of, whole_of_bits, whole_of, parts_of, sized, text_value_of, are_ordered, are_rising, pair_of, several_of, several_pairs_of, compound_of, list_of, table_of, tagged, value_of};
 
-use crate::bytes::{eight_of, four_of, text_of};
+use crate::bytes::{HALF, eight_of, four_of, text_of};
 use crate::faults::ReadFault;
 use crate::tags;
 use abc_num::{Num, NumFault};
 use abc_value::{Value, ValueFault};
 use std::alloc::Global;
-
-/// 2^64: a number of 128 bits is two of 64.
-const HALF: u128 = 1 << 64;
 
 /// The value in front, with at most so many levels, and what follows it. A value nests no deeper than it has levels, and
 /// takes no more memory than there are bytes, whatever counts they claim.

@@ -9,21 +9,20 @@ ghost use Rattle.abc_record.specs.Spelling.{spelled_number, spelled_value, spell
 ghost use Rattle.abc_record.specs.Kept.{AreKeptLines, IsKept, AreKept};
 ghost use Rattle.abc_record.specs.inner.Writing.{spelled_pair};
 
+use crate::bytes::HALF;
+use crate::size::size_of;
 use crate::{Change, tags};
 use abc_num::{ItemLines, Line, Num, OutOfMemory};
 use abc_value::{Kind, Value};
 use std::alloc::{AllocError, Global};
 
-/// 2^64: a number of 128 bits is two of 64.
-const HALF: u128 = 1 << 64;
-
-/// The spelling of these changes, each of which has one: their count, and they one after the other.
+/// The spelling of these changes, each of which has one: their count, and they one after the other. Its room is taken at once.
 pub fn write_changes(alloc: Global, c: &[Change]) -> Result<Vec<u8>, OutOfMemory>
     requires kept { AreKept c.now }
     requires fits { length (spelled c.now) < 2 ^ 64 }
     ensures { IfOk result (λ bytes. bytes.items ≡ spelled c.now) }
 {
-    let mut bytes = Vec::new(alloc);
+    let mut bytes = Vec::with_capacity(alloc, size_of(c) as usize)?;
     push_four(&mut bytes, c.len() as u32)?;
     for change in c {
         push_change(&mut bytes, change)?;
@@ -86,7 +85,7 @@ fn push_value(bytes: &mut Vec<u8>, value: &Value) -> Result<(), AllocError>
         Kind::Number => push_number_value(bytes, value),
         Kind::Text => {
             bytes.push(tags::TEXT)?;
-            push_codes(bytes, value)
+            push_text(bytes, value.codes())
         }
         Kind::Compound => {
             bytes.push(tags::COMPOUND)?;
@@ -139,21 +138,6 @@ fn push_pairs(bytes: &mut Vec<u8>, value: &Value) -> Result<(), AllocError>
         };
         push_value(bytes, key)?;
         push_value(bytes, associate)?;
-    }
-    Ok(())
-}
-
-/// The characters of a text, behind their count.
-fn push_codes(bytes: &mut Vec<u8>, value: &Value) -> Result<(), AllocError>
-    requires { length_of value.now ≡ length (codes_of value.now) }
-    ensures { OnOk result (bytes.new.items ≡ bytes.old.items ++ spelled_text (codes_of value.now)) }
-{
-    push_four(bytes, value.len() as u32)?;
-    for i in 0..value.len() {
-        let Some(code) = value.byte(i) else {
-            unreachable!()
-        };
-        bytes.push(code)?;
     }
     Ok(())
 }

@@ -120,10 +120,13 @@ pub come_moved : (s t : ℕ) (ps qs : List (List ℕ)) (found : Result Workspace
 come_moved s t ps qs found e f come = subst (λ (u : ℕ). ComeTo u qs found) e (subst (λ (rs : List (List ℕ)). ComeTo s rs found) f come)
 
 -- how a refusal is told
-pub refused_by : (T : Type 0) (fault : BeginFault) (image : List ℕ) → ((at : ℕ) → fault ≡ NotAStore at → Opens image (Err at)) → IfNotAStore {T = T} (Err fault) (λ at. Opens image (Err at))
-refused_by T StoreFault image opens = tt
-refused_by T Memory image opens = tt
-refused_by T (NotAStore at) image opens = opens at refl
+pub refused_by : {T : Type 0} (r : Result T BeginFault) (fault : BeginFault) (image : List ℕ) → r ≡ Err fault → ((at : ℕ) → fault ≡ NotAStore at → Opens image (Err at)) → IfNotAStore r (λ at. Opens image (Err at))
+refused_by {T} r fault image is opens = subst (λ (x : Result T BeginFault). IfNotAStore x (λ at. Opens image (Err at))) (sym is) (by_fault fault opens)
+  where
+    by_fault : (fault : BeginFault) → ((at : ℕ) → fault ≡ NotAStore at → Opens image (Err at)) → IfNotAStore {T = T} (Err fault) (λ at. Opens image (Err at))
+    by_fault StoreFault opens = tt
+    by_fault Memory opens = tt
+    by_fault (NotAStore at) opens = opens at refl
 
 module _ (one : OneListIsSpelled) where
   lead_to_one : (p : List ℕ) (ws x y : Workspace) → LeadsTo p ws x → LeadsTo p ws y → x ≡ y
@@ -283,6 +286,21 @@ pub checkpoint_opens : {T : Type 0} (r : Result T AppendFault) (room : Option �
 checkpoint_opens (Err fault) room layouts new payload ws leads typed full opens = tt
 checkpoint_opens (Ok x) None layouts new payload ws leads typed full opens = absurd (full.1 refl)
 checkpoint_opens (Ok x) (Some place) layouts new payload ws leads typed full opens = holds_alone new payload ws leads typed (layouts place) (opens place refl)
+
+-- a checkpoint leaves its payload alone
+pub checkpoint_left : {T : Type 0} (r : Result T AppendFault) (room : Option ℕ) (layouts : ℕ → Layout) (new payload : List ℕ) → (IsFull r ↔ (room ≡ None))
+    → ((place : ℕ) → room ≡ Some place → OnOk r (opened new ≡ Ok (record { layout = layouts place; payloads = payload ∷ [] }))) → OnOk r (payloads_of new ≡ Ok (payload ∷ []))
+unfolding payloads_of
+checkpoint_left (Err fault) room layouts new payload full opens = tt
+checkpoint_left (Ok x) None layouts new payload full opens = absurd (full.1 refl)
+checkpoint_left (Ok x) (Some place) layouts new payload full opens = ap payloads_in (opens place refl)
+
+-- an append leaves its payload behind the others
+pub append_left : {T : Type 0} (r : Result T AppendFault) (new payload : List ℕ) (ps : List (List ℕ)) (layout : Layout)
+    → OnOk r (opened new ≡ Ok (record { layout = layout; payloads = ps ++ payload ∷ [] })) → OnOk r (payloads_of new ≡ Ok (ps ++ payload ∷ []))
+unfolding payloads_of
+append_left (Err fault) new payload ps layout held = tt
+append_left (Ok x) new payload ps layout held = ap payloads_in held
 
 pub append_opens : {T : Type 0} (r : Result T AppendFault) (image new payload : List ℕ) (ws later : Workspace) → OpensTo image ws → LeadsTo payload ws later → IsWellTyped later
     → (layout : Layout) → ((ps : List (List ℕ)) → payloads_of image ≡ Ok ps → OnOk r (opened new ≡ Ok (record { layout = layout; payloads = ps ++ payload ∷ [] }))) → OnOk r (OpensTo new later)

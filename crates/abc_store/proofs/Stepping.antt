@@ -1,10 +1,11 @@
 -- The answers of the journal, by their kinds, and how the steps of a commit come to the whole.
-use Rattle.std.proofs.Common.{◌≡◌, ◌∙◌, ℕ, Bool, true, false, cond, List, [], ◌∷◌, length, nat_lt, Option, None, Some, sym, ap, subst, refl}
+use Rattle.std.proofs.Common.{◌≡◌, ◌∙◌, inl, inr, ⊎_elim, ℕ, Bool, true, false, not, cond, List, [], ◌∷◌, ◌++◌, length, nat_lt, Option, None, Some, sym, ap, subst, refl}
 use Rattle.std.specs.Prelude.{Result, Ok, Err, OnOk, IfErr, IsErrOf}
 use Rattle.abc_journal.specs.declared.faults.AppendFault.{AppendFault}
 use Rattle.abc_journal.specs.declared.faults.AppendFault.TheVariants.{StoreFault, StoreFull, Memory}
 use Rattle.abc_journal.specs.declared.layout.Bounds.{Bounds}
 use Rattle.abc_journal.specs.declared.layout.Layout.{Layout}
+use Rattle.abc_journal.specs.Image.{payloads_of}
 use Rattle.abc_journal.specs.Journal.{IsFull, need_of, after_record}
 use Rattle.abc_journal.specs.Commit.{Full, AnswersTo, and_then, recorded, checkpointed, with_room, with_due, is_due, committed}
 use Rattle.abc_store.specs.declared.faults.CommitFault.{CommitFault}
@@ -12,8 +13,8 @@ use Rattle.abc_store.specs.Workspace.{Workspace, checkpoint_of}
 use Rattle.abc_num.specs.declared.limits.TheConstants.{MOST_RECORD_BYTES}
 use Rattle.abc_record.specs.declared.change.Change.{Change}
 use Rattle.abc_record.specs.Spelling.{spelled}
-use Rattle.abc_store.specs.Commit.{Work, Refusal, too_large, store_full, kept_in, stored, work_after, IsDecided, commit_fault}
-use Rattle.abc_store.specs.inner.Steps.{IsNoFault, IsCheckpoint, IsMadeUp, TakesDue, fits, may_be_due}
+use Rattle.abc_store.specs.Commit.{Work, HasRecord, Refusal, too_large, store_full, kept_in, stored, work_after, IsDecided, commit_fault}
+use Rattle.abc_store.specs.inner.Steps.{IsNoFault, IsCheckpoint, IsMadeUp, IsPlan, MayBeRenewed, TakesDue, fits, may_be_due, renewed_by}
 
 -- what holds after each answer but a fault
 pub unless_fault : {T : Type 0} (r : Result T AppendFault) (P : Type 0) → OnOk r P → (IsFull r → P) → (IsErrOf r Memory → ⊥) → IsNoFault r → P
@@ -130,6 +131,22 @@ module _ (bounds : Bounds) (layout roomy added : Layout) (bytes before : ℕ) wh
       → TakesDue (is_due bounds added) after later
   takes_due None later made room recorded_is = by_fit (fits bounds layout bytes) refl (not_wanted (may_be_due bounds layout bytes) later made) room recorded_is
   takes_due (Some p) later made room recorded_is = is_made (may_be_due bounds layout bytes) p later made
+
+-- what a commit of some changes leaves is their record, by what was made up for it
+module _ (bounds : Bounds) (layout : Layout) (payload : List ℕ) (before after : Option (List ℕ)) (kept later : Workspace) (ps : List (List ℕ)) (image : List ℕ) where
+  pub has_record : (changes : List Change) → MayBeRenewed after (renewed_by before ps ++ payload ∷ []) image → IsPlan bounds layout payload before after kept later → (changes ≡ [] → ⊥) → payload ≡ spelled changes
+      → HasRecord ps kept changes later image
+  has_record [] found plan some is = absurd (some refl)
+  has_record (change ∷ changes) found plan some is = ⊎_elim (in_front before plan.room) (behind after plan.due) found
+    where
+      in_front : (p : Option (List ℕ)) → IsMadeUp (not (fits bounds layout (length payload))) p kept → payloads_of image ≡ Ok (renewed_by p ps ++ payload ∷ []) → HasRecord ps kept (change ∷ changes) later image
+      in_front None made e = inl (e ∙ ap (λ b. Ok (ps ++ b ∷ [])) is)
+      in_front (Some p) made e =
+          inr (inl (e ∙ ap (λ b. Ok (p ∷ b ∷ [])) is ∙ ap (λ b. Ok (b ∷ spelled (change ∷ changes) ∷ [])) (is_made (not (fits bounds layout (length payload))) p kept made).0))
+
+      behind : (p : Option (List ℕ)) → IsMadeUp (may_be_due bounds layout (length payload)) p later → payloads_of image ≡ Ok (renewed_by p (renewed_by before ps ++ payload ∷ [])) → HasRecord ps kept (change ∷ changes) later image
+      behind None made e = in_front before plan.room e
+      behind (Some p) made e = inr (inr (e ∙ ap (λ b. Ok (b ∷ [])) (is_made (may_be_due bounds layout (length payload)) p later made).0))
 
 -- changes that are refused, though there are some and they aren't too large, are refused by the layout
 pub refused_by_layout : (bounds : Bounds) (work : Work) (changes : List Change) (later : Workspace) (refusal : Refusal) → (changes ≡ [] → ⊥) → nat_lt MOST_RECORD_BYTES (length (spelled changes)) ≡ false

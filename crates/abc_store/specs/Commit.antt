@@ -1,8 +1,9 @@
 -- What a commit comes to, by the lengths of what it writes.
-use Rattle.std.specs.Prelude.{◌≡◌, ◌⊎◌, ℕ, ◌-◌, ◌^◌, min, List, [], ◌∷◌, length, Result, Ok, Err, if◌then◌else◌, nat_lt}
+use Rattle.std.specs.Prelude.{◌≡◌, ◌⊎◌, ℕ, ◌-◌, ◌^◌, min, List, [], ◌∷◌, ◌++◌, length, Result, Ok, Err, if◌then◌else◌, nat_lt}
 use Rattle.abc_num.specs.declared.limits.TheConstants.{MOST_RECORD_BYTES}
 use Rattle.abc_journal.specs.declared.layout.Bounds.{Bounds}
 use Rattle.abc_journal.specs.declared.layout.Layout.{Layout}
+use Rattle.abc_journal.specs.Image.{payloads_of}
 use Rattle.abc_journal.specs.Journal.{HasLayout}
 use Rattle.abc_journal.specs.Commit.{Full, committed}
 use Rattle.abc_record.specs.declared.change.Change.{Change}
@@ -66,6 +67,15 @@ Tells (Err Memory) bounds work found = Unit {0}
 Tells (Err (TooLarge bytes)) bounds work found = (many : ℕ) × (found ≡ Err (too_large many)) × (bytes ≡ min many (2 ^ 64 - 1))
 Tells (Err (StoreFull need limit)) bounds work found =
     (full : Full) × (found ≡ Err (store_full full)) × (full.layout ≡ work.layout) × (need ≡ min full.need (2 ^ 64 - 1)) × (limit ≡ bounds.image)
+
+-- the image has the record of the changes, which spells them in their order: behind the payloads that were there before, or behind a checkpoint
+-- that made room for it; or it has a checkpoint of the later workspace alone, which was taken after it. No change leaves what was there
+abbrev pub HasRecord : List (List ℕ) → Workspace → List Change → Workspace → List ℕ → Type 0
+HasRecord before kept [] later image = payloads_of image ≡ Ok before
+HasRecord before kept (change ∷ changes) later image =
+    (payloads_of image ≡ Ok (before ++ spelled (change ∷ changes) ∷ []))
+    ⊎ (payloads_of image ≡ Ok (checkpoint_of kept ∷ spelled (change ∷ changes) ∷ []))
+    ⊎ (payloads_of image ≡ Ok (checkpoint_of later ∷ []))
 
 -- every answer but a fault of the store
 abbrev pub IsNoFault : {T : Type 0} → Result T CommitFault → Type 0

@@ -36,15 +36,12 @@ pub(crate) fn opened(alloc: Global, start: u64, payloads: &[Text]) -> Result<Con
     ensures refused { IfNotAStore result (λ at. (gate : ℕ) × ComeTo start payloads.now (Err gate) × (at ≡ min gate (2 ^ 64 - 1))) }
     ensures no_fault { IsErrOf result BeginFault.StoreFault → ⊥ }
 {
-    let contents = match replay(alloc, start, payloads) {
-        Ok(contents) => contents,
-        Err(fault) => return Err(fault),
-    };
-    match are_typed(alloc, contents.targets(), contents.units()) {
-        Ok(true) => Ok(contents),
-        Ok(false) => Err(BeginFault::NotAStore { at: start }),
-        Err(OutOfMemory) => Err(BeginFault::Memory),
+    let contents = replay(alloc, start, payloads)?;
+    let typed = are_typed(alloc, contents.targets(), contents.units())?;
+    if !typed {
+        return Err(BeginFault::NotAStore { at: start });
     }
+    Ok(contents)
 }
 
 /// Whether types fit these targets and units.

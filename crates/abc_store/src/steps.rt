@@ -1,13 +1,14 @@
 //! The writes of a commit, step by step, and what the image opens to meanwhile.
-ghost use Rattle.std.specs.Prelude.{◌≡◌, ◌≤◌, ◌+◌, ℕ, Bool, true, false, length, not, None, Ok, Err, IfErr, OnOk, IsErrOf, IsTrue, option_map};
+ghost use Rattle.std.specs.Prelude.{◌≡◌, ◌≤◌, ◌+◌, ◌++◌, ◌∷◌, [], List, ℕ, Bool, true, false, length, not, None, Ok, Err, IfErr, OnOk, IsErrOf, IsTrue, option_map};
 ghost use Rattle.abc_outside.specs.Outside.{RoseByOne, KeepsButStore};
 ghost use Rattle.abc_outside.specs.Stop.{Leaves, IsQuiet};
+ghost use Rattle.abc_journal.specs.Image.{payloads_of};
 ghost use Rattle.abc_journal.specs.Journal.{HasLayout, IsFull};
 ghost use Rattle.abc_journal.specs.Commit.{Full, AnswersTo, recorded, checkpointed, with_room, with_due, is_due as is_due_in, committed};
 ghost use Rattle.abc_store.specs.Workspace.{Workspace, empty, checkpoint_of, IsWellTyped};
 ghost use Rattle.abc_store.specs.Opening.{LeadsTo, OpensTo};
 ghost use Rattle.abc_store.specs.Commit.{Refusal, kept_in, StillOpens, OpensToEither};
-ghost use Rattle.abc_store.specs.inner.Steps.{IsNoFault, SaysLimit, IsMadeUp, IsPlan, fits, TakesDue};
+ghost use Rattle.abc_store.specs.inner.Steps.{IsNoFault, SaysLimit, IsMadeUp, IsPlan, fits, renewed_by, MayBeRenewed, TakesDue};
 
 use crate::due::is_due;
 use abc_journal::format::RECORD_EXTRA;
@@ -24,6 +25,8 @@ fn renew<H: Host>(journal: &mut Journal, host: &mut H, payload: &[u8]) -> Result
     ensures layout { H.tells_image → IsNoFault result → HasLayout (H.now host.new).image journal.new.layout }
     ensures opens { H.tells_image → (kept : Workspace) → LeadsTo payload.now empty kept → OpensTo (H.now host.old).image kept
         → IsNoFault result → OpensTo (H.now host.new).image kept }
+    ensures payloads { H.tells_image → OnOk result (payloads_of (H.now host.new).image ≡ Ok (payload.now ∷ [])) }
+    ensures full_host { IsFull result → host.new ≡ host.old }
     ensures fault { IsErrOf result AppendFault.StoreFault → RoseByOne (H.now host.old).store_faults (H.now host.new).store_faults }
     ensures faultless { IsNoFault result → (H.now host.new).store_faults ≡ (H.now host.old).store_faults }
     ensures no_memory { IsErrOf result AppendFault.Memory → ⊥ }
@@ -57,6 +60,8 @@ fn make_room<H: Host>(
     ensures layout { H.tells_image → IsNoFault result → HasLayout (H.now host.new).image journal.new.layout }
     ensures opens { H.tells_image → (wanted : Bool) (kept : Workspace) → IsMadeUp wanted (option_map (λ p. p.now) before.entry) kept → OpensTo (H.now host.old).image kept
         → IsNoFault result → OpensTo (H.now host.new).image kept }
+    ensures payloads { H.tells_image → (ps : List (List ℕ)) → payloads_of (H.now host.old).image ≡ Ok ps
+        → OnOk result (payloads_of (H.now host.new).image ≡ Ok (renewed_by (option_map (λ p. p.now) before.entry) ps)) }
     ensures fault { IsErrOf result AppendFault.StoreFault → RoseByOne (H.now host.old).store_faults (H.now host.new).store_faults }
     ensures faultless { IsNoFault result → (H.now host.new).store_faults ≡ (H.now host.old).store_faults }
     ensures no_memory { IsErrOf result AppendFault.Memory → ⊥ }
@@ -92,6 +97,7 @@ fn add_record<H: Host>(
     ensures limit { SaysLimit result journal.old.bounds.image }
     ensures layout { H.tells_image → IsNoFault result → HasLayout (H.now host.new).image journal.new.layout }
     ensures opens { H.tells_image → (kept later : Workspace) → LeadsTo payload.now kept later → IsWellTyped later → OpensTo (H.now host.old).image kept → OnOk result (OpensTo (H.now host.new).image later) }
+    ensures payloads { H.tells_image → (ps : List (List ℕ)) → payloads_of (H.now host.old).image ≡ Ok ps → OnOk result (payloads_of (H.now host.new).image ≡ Ok (ps ++ payload.now ∷ [])) }
     ensures full_host { IsFull result → host.new ≡ host.old }
     ensures unfit { (full : Full) → recorded journal.old.bounds journal.old.layout (length payload.now) ≡ Err full → IsFull result }
     ensures fault { IsErrOf result AppendFault.StoreFault → RoseByOne (H.now host.old).store_faults (H.now host.new).store_faults }
@@ -127,6 +133,8 @@ fn take_due<H: Host>(
     ensures no_other { IfErr result (λ fault. fault ≡ AppendFault.StoreFault) }
     ensures layout { H.tells_image → OnOk result (HasLayout (H.now host.new).image journal.new.layout) }
     ensures opens { H.tells_image → (due : Bool) (later : Workspace) → TakesDue due (option_map (λ p. p.now) after.entry) later → OpensTo (H.now host.old).image later → OnOk result (OpensTo (H.now host.new).image later) }
+    ensures payloads { H.tells_image → (ps : List (List ℕ)) → payloads_of (H.now host.old).image ≡ Ok ps
+        → OnOk result (MayBeRenewed (option_map (λ p. p.now) after.entry) ps (H.now host.new).image) }
     ensures fault { IsErrOf result AppendFault.StoreFault → RoseByOne (H.now host.old).store_faults (H.now host.new).store_faults }
     ensures faultless { OnOk result ((H.now host.new).store_faults ≡ (H.now host.old).store_faults) }
     ensures rest { KeepsButStore (H.now host.old) (H.now host.new) }
@@ -175,6 +183,8 @@ pub(crate) fn write_all<H: Host>(
     ensures layout { H.tells_image → IsNoFault result → HasLayout (H.now host.new).image journal.new.layout }
     ensures opens { H.tells_image → (kept later : Workspace) → IsPlan journal.old.bounds journal.old.layout payload.now (option_map (λ p. p.now) before.entry) (option_map (λ p. p.now) after.entry) kept later
         → OpensTo (H.now host.old).image kept → OnOk result (OpensTo (H.now host.new).image later) }
+    ensures payloads { H.tells_image → (ps : List (List ℕ)) → payloads_of (H.now host.old).image ≡ Ok ps
+        → OnOk result (MayBeRenewed (option_map (λ p. p.now) after.entry) (renewed_by (option_map (λ p. p.now) before.entry) ps ++ payload.now ∷ []) (H.now host.new).image) }
     ensures full_opens { H.tells_image → (kept later : Workspace) → IsPlan journal.old.bounds journal.old.layout payload.now (option_map (λ p. p.now) before.entry) (option_map (λ p. p.now) after.entry) kept later
         → OpensTo (H.now host.old).image kept → IsFull result → OpensTo (H.now host.new).image kept }
     ensures unfit { (kept later : Workspace) → IsPlan journal.old.bounds journal.old.layout payload.now (option_map (λ p. p.now) before.entry) (option_map (λ p. p.now) after.entry) kept later

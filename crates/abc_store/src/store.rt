@@ -1,17 +1,17 @@
 //! The store: a workspace, and the journal that keeps it.
-ghost use Rattle.std.specs.Prelude.{◌≡◌, ◌⊎◌, ◌<◌, [], false, ℕ, length, IfOk, OnOk, IsErrOf, IsTrue, true, option_map, Ok, Err, Some};
+ghost use Rattle.std.specs.Prelude.{◌≡◌, ◌⊎◌, ◌<◌, [], false, List, ℕ, length, IfOk, OnOk, IsErrOf, IsTrue, true, option_map, Ok, Err, Some};
 ghost use Rattle.abc_outside.specs.Outside.{RoseByOne, KeepsButStore};
 ghost use Rattle.abc_outside.specs.Stop.{Leaves, IsQuiet};
 ghost use Rattle.abc_tree.specs.Units.{AreRising as AreInOrder};
 ghost use Rattle.abc_frames.specs.Maps.{AreRegular};
 ghost use Rattle.abc_num.specs.declared.limits.TheConstants.{MOST_UNITS};
 ghost use Rattle.abc_journal.specs.declared.format.TheConstants.{FRESH_BYTES};
-ghost use Rattle.abc_journal.specs.Image.{fresh_image, settled_image};
+ghost use Rattle.abc_journal.specs.Image.{fresh_image, settled_image, payloads_of};
 ghost use Rattle.abc_journal.specs.Journal.{BeginsQuiet, IfNotAStore, IsNotAStore};
 ghost use Rattle.abc_record.specs.Kept.{AreKept};
 ghost use Rattle.abc_store.specs.Workspace.{Workspace, changed_by, changes_between, with_targets, with_routine, unit_named, IsWithinLimits, IsWellTyped, AreNamed, AreKeptUnits};
 ghost use Rattle.abc_store.specs.Opening.{Opens, OpensTo};
-ghost use Rattle.abc_store.specs.Commit.{Holds, Refusal, stored, work_after, Tells, IsNoFault, IsDecided, IsTooLarge, IsStoreFull, StillOpens, OpensToEither};
+ghost use Rattle.abc_store.specs.Commit.{Holds, HasRecord, Refusal, stored, work_after, Tells, IsNoFault, IsDecided, IsTooLarge, IsStoreFull, StillOpens, OpensToEither};
 ghost use Rattle.abc_store.specs.View.{work_of};
 
 use crate::CommitFault;
@@ -96,19 +96,14 @@ impl Store {
         ensures quiet { H.tells_image → BeginsQuiet H.clock H.stopped host.old (H.now host.old).image
             → OnOk result (IsQuiet H.clock H.stopped host.new (H.now host.new).image) }
     {
-        let (journal, payloads) = match Journal::begin(alloc, host, b) {
-            Ok(found) => found,
-            Err(fault) => return Err(fault),
-        };
-        match opened(alloc, journal.layout().start, &payloads) {
-            Ok(contents) => Ok(Store {
-                alloc,
-                journal,
-                checkpoint: b.checkpoint,
-                contents,
-            }),
-            Err(fault) => Err(fault),
-        }
+        let (journal, payloads) = Journal::begin(alloc, host, b)?;
+        let contents = opened(alloc, journal.layout().start, &payloads)?;
+        Ok(Store {
+            alloc,
+            journal,
+            checkpoint: b.checkpoint,
+            contents,
+        })
     }
 
     /// The targets.
@@ -201,6 +196,9 @@ impl Store {
         ensures work { (later : Workspace) → changed_by changes.items self.old.kept ≡ Some later → IsDecided result
             → work_of self.new ≡ work_after (work_of self.old) (stored self.old.bounds (work_of self.old) changes.items later) }
         ensures holds { H.tells_image → IsNoFault result → Holds (H.now host.new).image (work_of self.new) }
+
+        ensures payloads { H.tells_image → (ps : List (List ℕ)) (later : Workspace) → payloads_of (H.now host.old).image ≡ Ok ps
+            → changed_by changes.items self.old.kept ≡ Some later → OnOk result (HasRecord ps self.old.kept changes.items later (H.now host.new).image) }
 
         ensures fault { IsErrOf result CommitFault.StoreFault → RoseByOne (H.now host.old).store_faults (H.now host.new).store_faults }
         ensures faultless { IsNoFault result → (H.now host.new).store_faults ≡ (H.now host.old).store_faults }

@@ -1,14 +1,14 @@
 -- What is read at a place of a region.
 use Rattle.std.specs.Prelude.{◌≡◌, ◌⊎◌, ℕ, ◌+◌, ◌<◌, Bool, List, length, take, drop, Result, Ok, Err, Vec}
 use Rattle.std.specs.declared.alloc.Global.{Global}
-use Rattle.abc_journal.specs.declared.format.TheConstants.{RECORD_EXTRA}
+use Rattle.abc_journal.specs.declared.format.TheConstants.{GATE_BYTES, RECORD_EXTRA}
 use Rattle.abc_journal.specs.declared.faults.BeginFault.{BeginFault}
 use Rattle.abc_journal.specs.declared.faults.BeginFault.TheVariants.{StoreFault, NotAStore, Memory}
 use Rattle.abc_journal.specs.Image.{word_at, record_open, record_end, Region}
 
 -- behind the gate at this place stands a record with this payload, and then a gate that is open or not
 pub record IsFound (image : List ℕ) (at : ℕ) (payload : List ℕ) (next_open : Bool) : Type 0 where
-  pub count : word_at image (at + 1) ≡ length payload
+  pub count : word_at image (at + GATE_BYTES) ≡ length payload
   pub is : take (length payload) (drop (at + RECORD_EXTRA) image) ≡ payload
   pub within : at + RECORD_EXTRA + length payload < length image
   pub next : next_open ≡ record_open image (at + RECORD_EXTRA + length payload)

@@ -2,7 +2,7 @@
 use Rattle.std.specs.Prelude.{◌≡◌, ◌⊎◌, ℕ, ◌+◌, ◌<◌, ◌≤◌, ◌^◌, false, List, length, Ok}
 use Rattle.abc_outside.specs.Stop.{Shortened}
 use Rattle.abc_journal.specs.declared.layout.Layout.{Layout}
-use Rattle.abc_journal.specs.declared.format.TheConstants.{HEAD_BYTES, RECORD_EXTRA}
+use Rattle.abc_journal.specs.declared.format.TheConstants.{GATE_BYTES, HEAD_BYTES, RECORD_EXTRA}
 use Rattle.abc_journal.specs.Image.{payloads_of}
 use Rattle.abc_journal.specs.Journal.{HasLayout}
 use Rattle.abc_journal.specs.Checkpoint.{staged}
@@ -13,7 +13,7 @@ other_closed layout = record layout { other = false }
 
 -- a place in front of the live region with room for a payload of so many bytes, or the place behind it
 abbrev pub IsPlace : Layout → ℕ → ℕ → Type 0
-IsPlace layout place bytes = ((place ≡ HEAD_BYTES) × (HEAD_BYTES + (RECORD_EXTRA + 1) + bytes ≤ layout.start)) ⊎ (place ≡ layout.gate + 1)
+IsPlace layout place bytes = ((place ≡ HEAD_BYTES) × (HEAD_BYTES + (RECORD_EXTRA + GATE_BYTES) + bytes ≤ layout.start)) ⊎ (place ≡ layout.gate + GATE_BYTES)
 
 -- an image that was staged over one that opens to these payloads and whose other slot is closed
 pub record IsStaged (base image : List ℕ) (layout : Layout) (place : ℕ) (payload : List ℕ) (ps : List (List ℕ)) : Type 0 where
@@ -22,7 +22,7 @@ pub record IsStaged (base image : List ℕ) (layout : Layout) (place : ℕ) (pay
   pub shut : layout.other ≡ false
   pub stands : IsPlace layout place (length payload)
   pub rises : layout.generation + 1 < 2 ^ 64
-  pub fits : place + (RECORD_EXTRA + 1) + length payload < 2 ^ 64
+  pub fits : place + (RECORD_EXTRA + GATE_BYTES) + length payload < 2 ^ 64
   pub is : image ≡ staged base layout place payload
 
 -- the same, or a cut where the region is in front

@@ -107,6 +107,10 @@ returns-clause-opens g c told kept later plan is =
     let before = (goal.at.returns-clause-opens g c).In_ok-add_record in
     c.take_due.ensures.opens told _ later (due g before kept later plan) (later_opens g before told kept later plan is)
 
+pub returns-clause-payloads : goal.returns-clause-payloads
+returns-clause-payloads g c told ps are =
+    c.take_due.ensures.payloads told _ (c.in_ok-add_record.ensures.payloads told _ (c.in_ok-make_room.ensures.payloads told ps are))
+
 pub returns-clause-stops : goal.returns-clause-stops
 returns-clause-stops g c told quiet kept later plan is =
     let before = (goal.at.returns-clause-stops g c).In_ok-add_record in

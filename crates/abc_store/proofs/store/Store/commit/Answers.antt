@@ -5,11 +5,24 @@ use Rattle.abc_record.specs.Spelling.{spelled}
 use Rattle.abc_store.specs.Workspace.{Workspace}
 use Rattle.abc_store.specs.Opening.{OpensTo}
 use Rattle.abc_journal.specs.Journal.{IsFull}
-use Rattle.abc_store.specs.Commit.{StillOpens}
+use Rattle.abc_store.specs.Commit.{HasRecord, StillOpens}
 use Rattle.abc_store.specs.View.{work_of}
 use Rattle.abc_store.specs.inner.Later.{later_of}
-use Rattle.abc_store.proofs.Stepping.{refused_by_layout, decided_is_full, full_work}
+use Rattle.abc_store.proofs.Stepping.{has_record, refused_by_layout, decided_is_full, full_work}
 use Rattle.abc_store.proofs.store.Store.commit.Goals as goal
+
+pub returns-in-Ok-clause-payloads : goal.returns-in-Ok-clause-payloads
+returns-in-Ok-clause-payloads g c told ps later are made =
+    let kept : Workspace = c.self.inside.contents in
+    let last : Workspace = later_of c.prepare.new.contents c.in_ok-payload.later in
+    let both : Some later ≡ Some last = search rules in
+    let same : later ≡ last = cc in
+    let some : c.args.changes.items ≡ [] → ⊥ = search rules in
+    let payload : c.deref-2.result.now ≡ spelled c.args.changes.items = search rules in
+    let new = (g.H.Host.now c.write_all.new.host).image in
+    let it : HasRecord ps kept c.args.changes.items last new =
+    has_record c.prepare.new.journal.bounds c.prepare.new.journal.layout _ _ _ kept last ps new c.args.changes.items (c.in-Ok.ensures.payloads told ps are) (search rules) some payload in
+    subst (λ (w : Workspace). HasRecord ps w c.args.changes.items later new) (ap (λ v. v.kept) c.self.view_is) (subst (λ (w : Workspace). HasRecord ps kept c.args.changes.items w new) (sym same) it)
 
 pub returns-clause-unfit_stops : goal.returns-clause-unfit_stops
 returns-clause-unfit_stops g c told quiet later refusal made refused =
