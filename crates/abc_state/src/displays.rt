@@ -172,11 +172,30 @@ fn listed(alloc: Global, fillers: &[Filler]) -> Result<Value, ValueFault>
     ensures sizes { IsMakingOf (list (trees (in_order (flat_map filler_elements fillers.now)))) result }
 {
     if fillers.len() == 1 {
-        if let Filler::Range(first, last) = &fillers[0] {
-            return range_list(alloc, first, last);
-        }
+        return filler_list(alloc, &fillers[0]);
     }
     let elements = elements_of(alloc, fillers)?;
+    Value::list(alloc, elements)
+}
+
+/// The list of the elements of one filler.
+fn filler_list(alloc: Global, filler: &Filler) -> Result<Value, ValueFault>
+    ensures value { IfOk result (λ v. v ≡ list (trees (in_order (filler_elements filler.now)))) }
+    ensures sizes { IsMakingOf (list (trees (in_order (filler_elements filler.now)))) result }
+{
+    match filler {
+        Filler::One(value) => value_list(alloc, value),
+        Filler::Range(first, last) => range_list(alloc, first, last),
+    }
+}
+
+/// The list of one element, which equals this value.
+fn value_list(alloc: Global, value: &Value) -> Result<Value, ValueFault>
+    ensures value { IfOk result (λ v. v ≡ list (trees (value.now ∷ []))) }
+    ensures sizes { IsMakingOf (list (trees (value.now ∷ []))) result }
+{
+    let mut elements = Vec::new(alloc);
+    elements.push(copied(value)?)?;
     Value::list(alloc, elements)
 }
 

@@ -6,7 +6,7 @@ use Rattle.abc_state.proofs.displays.Filling.with_range.Goals as goal
 pub returns-in_err-check_range : goal.returns-in_err-check_range
 returns-in_err-check_range c = λ here s.
     let p = err_from_is_err_and c.from_residual.result c.from_residual.ensures.1 in
-    rw (p.1, p.2) (halted (range here c.args.first.now c.args.last.now s) _ here.line c.in_err-check_range.field-0 s (c.in_err-check_range.ensures here s))
+    rw (p.1, p.2) (halted (range here c.args.first.now c.args.last.now s) _ here.line c.in_err-check_range.field-0.0 s (c.in_err-check_range.ensures here s))
 
 pub returns : goal.returns
 returns c = λ here s.
