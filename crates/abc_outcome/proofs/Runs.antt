@@ -128,6 +128,11 @@ module _ {H : Type 0} (tells_image tells_input tells_said : Type 0) (now : H →
     quiet = λ told quiet. tt;
   }
 
+  pub broken_so : (fault : AnswerFault) (result : Result Answer AnswerFault) → result ≡ Err fault → Runs tells_input tells_said now clock stopped reading reading_new old mid (Err fault) out
+      → Answers tells_image tells_input tells_said now clock stopped before before reading reading_new old mid result comes
+  broken_so fault result is runs =
+      subst (λ (r : Result Answer AnswerFault). Answers tells_image tells_input tells_said now clock stopped before before reading reading_new old mid r comes) (sym is) (broken_off fault runs)
+
   -- what the run left was kept
   module _ (after : View) (new : H) (left : Left) (runs : Runs tells_input tells_said now clock stopped reading reading_new old mid (Ok left) out) where
     abbrev ended : List RawLine → Outcome

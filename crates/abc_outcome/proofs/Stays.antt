@@ -38,8 +38,8 @@ module _ {H : Type 0} (tells_image : Type 0) (now : H → Outside) (clock : H �
     quiet = λ told quiet. tt;
   }
 
-  pub starved_so : (left : List RawLine) (out : Outcome) (fault : AnswerFault) → fault ≡ Memory → Settles tells_image now clock stopped store store host host (Err fault) left out
-  starved_so left out fault is = subst (λ (f : AnswerFault). Settles tells_image now clock stopped store store host host (Err f) left out) (sym is) (starved left out)
+  pub starved_so : (left : List RawLine) (out : Outcome) (result : Result Answer AnswerFault) → result ≡ Err Memory → Settles tells_image now clock stopped store store host host result left out
+  starved_so left out result is = subst (λ (r : Result Answer AnswerFault). Settles tells_image now clock stopped store store host host r left out) (sym is) (starved left out)
 
   -- a reply line alone, behind what the item wrote
   pub refused : (left : List RawLine) (output line : List ℕ) (result : Result Answer AnswerFault) → IsTrue store.sound → (tells_image → Holds (now host).image (work_of store))
@@ -60,4 +60,4 @@ module _ {H : Type 0} (tells_image : Type 0) (now : H → Outside) (clock : H �
     stops = λ told quiet. none_yet clock stopped host _;
     quiet = λ told quiet. quiet;
   }
-  refused left output line (Err fault) sound holds is = starved_so left (ends_with (work_of store) left output line) fault is
+  refused left output line (Err fault) sound holds is = starved_so left (ends_with (work_of store) left output line) (Err fault) (ap Err is)

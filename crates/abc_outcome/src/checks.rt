@@ -21,34 +21,6 @@ use abc_store::laws::kept_units_are_regular;
 use abc_tree::{Command, Unit, Units, one_template};
 use std::alloc::Global;
 
-/// The line at fault of what was checked, if there is one.
-fn line_of(checked: Result<(), CheckFault>) -> Result<Option<u32>, OutOfMemory>
-    ensures none { result ≡ Ok None → checked ≡ Ok tt }
-    ensures some { (line : ℕ) → result ≡ Ok (Some line) → checked ≡ Err (CheckFault.TypeFault line) }
-{
-    match checked {
-        Ok(()) => Ok(None),
-        Err(CheckFault::TypeFault { line }) => Ok(Some(line)),
-        Err(CheckFault::Memory) => Err(OutOfMemory),
-    }
-}
-
-/// The checker of these units: the one that there is, or one that is made by a walk over all of them.
-fn checker_of(
-    alloc: Global,
-    checker: Option<Checker>,
-    units: &Units,
-) -> Result<Checker, OutOfMemory>
-    requires up_to_date { IsUpToDate checker units.now }
-    requires spelled { CutsAreSpelled (whole units.now) }
-    ensures { IfOk result (λ made. IsUpToDate (Some made) units.now) }
-{
-    match checker {
-        Some(checker) => Ok(checker),
-        None => Checker::over(alloc, units),
-    }
-}
-
 /// The line up to which no types fit a command, if there is one. The checker is made first where there is none.
 pub(crate) fn command_type_line(
     alloc: Global,
@@ -112,7 +84,35 @@ pub(crate) fn accept(store: &Store, command: &Command)
 {
     session_items();
     kept_units_are_regular();
-    // What they ensure tells how the store holds its targets and units.
+    // Their clauses tell what holds of the targets and units of the store.
     let _targets = store.targets();
     let _units = store.units();
+}
+
+/// The checker of these units: the one that there is, or one that is made by a walk over all of them.
+fn checker_of(
+    alloc: Global,
+    checker: Option<Checker>,
+    units: &Units,
+) -> Result<Checker, OutOfMemory>
+    requires up_to_date { IsUpToDate checker units.now }
+    requires spelled { CutsAreSpelled (whole units.now) }
+    ensures { IfOk result (λ made. IsUpToDate (Some made) units.now) }
+{
+    match checker {
+        Some(checker) => Ok(checker),
+        None => Checker::over(alloc, units),
+    }
+}
+
+/// The line at fault of what was checked, if there is one.
+fn line_of(checked: Result<(), CheckFault>) -> Result<Option<u32>, OutOfMemory>
+    ensures none { result ≡ Ok None → checked ≡ Ok tt }
+    ensures some { (line : ℕ) → result ≡ Ok (Some line) → checked ≡ Err (CheckFault.TypeFault line) }
+{
+    match checked {
+        Ok(()) => Ok(None),
+        Err(CheckFault::TypeFault { line }) => Ok(Some(line)),
+        Err(CheckFault::Memory) => Err(OutOfMemory),
+    }
 }

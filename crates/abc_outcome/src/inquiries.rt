@@ -23,58 +23,25 @@ use abc_store::laws::dropping_stays_typed;
 use abc_tree::Environment;
 use std::alloc::Global;
 
-/// The change that takes a unit out.
-fn dropping(alloc: Global, template: Text) -> Result<Vec<Change>, OutOfMemory>
-    ensures { IfOk result (λ changes. changes.items ≡ DropUnit template ∷ []) }
-{
-    let mut changes = Vec::new(alloc);
-    changes.push(Change::DropUnit { template })?;
-    Ok(changes)
-}
-
-/// Takes a unit out of the store. What the type check knew of the units is forgotten.
-fn drop_unit<H: Host>(
+/// Answers a line that asks about the workspace.
+pub(crate) fn answer_inquiry<H: Host>(
     alloc: Global,
     store: &mut Store,
     checker: &mut Option<Checker>,
     host: &mut H,
-    template: Text,
+    asked: &Environment,
     k: u64,
 ) -> Result<Answer, AnswerFault>
     requires sound { IsTrue store.old.sound }
     requires holds { H.tells_image → Holds (H.now host.old).image (work_of store.old) }
-    requires spelled { IsKeptText template }
+    requires spelled { CanBeSpelled asked.now }
     requires up_to_date { IsUpToDate checker.old store.old.kept.units }
     ensures settles { (behind : Behind) → Settles H.tells_image H.now H.clock H.stopped store.old store.new host.old host.new result behind.lines
-        (drop_outcome store.old.bounds k (work_of store.old) behind.lines template) }
+        (inquiry_outcome store.old.bounds k (work_of store.old) behind asked.now) }
     ensures up_to_date { ¬ (IsErrOf result AnswerFault.StoreFault) → IsUpToDate checker.new store.new.kept.units }
 {
-    let _there = store.targets();
-    let _units = store.units();
-    dropping_keeps_within_limits();
-    dropping_stays_typed();
-    let line = match ok_line(alloc, k) {
-        Ok(line) => line,
-        Err(OutOfMemory) => return Err(AnswerFault::Memory),
-    };
-    match dropping(alloc, template) {
-        Ok(changes) => {
-            *checker = None;
-            keep(
-                alloc,
-                store,
-                host,
-                changes,
-                Ending {
-                    output: Vec::new(alloc),
-                    line,
-                    quit: false,
-                },
-                k,
-            )
-        }
-        Err(OutOfMemory) => Err(AnswerFault::Memory),
-    }
+    let found = answer_environment(alloc, store, asked)?;
+    answer_found(alloc, store, checker, host, found, k)
 }
 
 /// Answers a line for which this was found.
@@ -103,25 +70,43 @@ fn answer_found<H: Host>(
     }
 }
 
-/// Answers a line that asks about the workspace.
-pub(crate) fn answer_inquiry<H: Host>(
+/// Takes a unit out of the store. What the type check knew of the units is forgotten.
+fn drop_unit<H: Host>(
     alloc: Global,
     store: &mut Store,
     checker: &mut Option<Checker>,
     host: &mut H,
-    asked: &Environment,
+    template: Text,
     k: u64,
 ) -> Result<Answer, AnswerFault>
     requires sound { IsTrue store.old.sound }
     requires holds { H.tells_image → Holds (H.now host.old).image (work_of store.old) }
-    requires spelled { CanBeSpelled asked.now }
+    requires spelled { IsKeptText template }
     requires up_to_date { IsUpToDate checker.old store.old.kept.units }
     ensures settles { (behind : Behind) → Settles H.tells_image H.now H.clock H.stopped store.old store.new host.old host.new result behind.lines
-        (inquiry_outcome store.old.bounds k (work_of store.old) behind asked.now) }
+        (drop_outcome store.old.bounds k (work_of store.old) behind.lines template) }
     ensures up_to_date { ¬ (IsErrOf result AnswerFault.StoreFault) → IsUpToDate checker.new store.new.kept.units }
 {
-    match answer_environment(alloc, store, asked) {
-        Ok(found) => answer_found(alloc, store, checker, host, found, k),
-        Err(OutOfMemory) => Err(AnswerFault::Memory),
-    }
+    // Their clauses tell what holds of the targets and units of the store.
+    let _there = store.targets();
+    let _units = store.units();
+    dropping_keeps_within_limits();
+    dropping_stays_typed();
+    let ending = Ending {
+        output: Vec::new(alloc),
+        line: ok_line(alloc, k)?,
+        quit: false,
+    };
+    let changes = dropping(alloc, template)?;
+    *checker = None;
+    keep(alloc, store, host, changes, ending, k)
+}
+
+/// The change that takes a unit out.
+fn dropping(alloc: Global, template: Text) -> Result<Vec<Change>, OutOfMemory>
+    ensures { IfOk result (λ changes. changes.items ≡ DropUnit template ∷ []) }
+{
+    let mut changes = Vec::new(alloc);
+    changes.push(Change::DropUnit { template })?;
+    Ok(changes)
 }

@@ -44,22 +44,8 @@ struct Replies {
     ghost large_fits: { vec_len written + vec_len large ≤ vec_capacity written },
 }
 
-/// The answer that is this reply line behind what was written. There is room for it, so no memory is taken.
-fn closed(written: Vec<u8>, line: &[u8], quit: bool) -> Answer
-    requires { vec_len written + length line.now ≤ vec_capacity written }
-    ensures { result ≡ record { reply = written.items ++ line.now; quit = quit } }
-{
-    let mut reply = written;
-    match reply.extend_from_slice(line) {
-        Ok(()) => Answer {
-            reply: Text::from_vec(reply),
-            quit,
-        },
-        Err(_) => unreachable!(),
-    }
-}
-
 impl Replies {
+    /// The replies of item `k`, which wrote this, and which says `kept` where its changes are kept.
     fn new(alloc: Global, output: Vec<u8>, kept: Vec<u8>, k: u64) -> Result<Replies, OutOfMemory>
         ensures written { IfOk result (λ r. r.written.items ≡ ended_in output.items) }
         ensures kept { IfOk result (λ r. r.kept.items ≡ kept.items) }
@@ -78,7 +64,7 @@ impl Replies {
         })
     }
 
-    /// What is answered after this commit.
+    /// What is answered after this commit. An item that isn't kept doesn't quit.
     fn told(self, committed: Result<(), CommitFault>, quit: bool) -> Result<Answer, AnswerFault>
         ensures { Closes self.written.items self.kept.items self.full.items self.large.items quit committed result }
     {
@@ -96,6 +82,64 @@ impl Replies {
             Err(CommitFault::Memory) => Err(AnswerFault::Memory),
         }
     }
+}
+
+/// Keeps the targets that a command left which wrote this, and answers it.
+pub(crate) fn keep_targets<H: Host>(
+    alloc: Global,
+    store: &mut Store,
+    checker: &mut Option<Checker>,
+    host: &mut H,
+    targets: &Targets,
+    output: Vec<u8>,
+    quit: bool,
+    k: u64,
+) -> Result<Answer, AnswerFault>
+    requires sound { IsTrue store.old.sound }
+    requires holds { H.tells_image → Holds (H.now host.old).image (work_of store.old) }
+    requires up_to_date { IsUpToDate checker.old store.old.kept.units }
+    ensures settles { (left : List RawLine) → Settles H.tells_image H.now H.clock H.stopped store.old store.new host.old host.new result left
+        (kept_outcome store.old.bounds k (work_of store.old) (record { output = output.items; left = left; line = ok k; quits = quit }) targets.now) }
+    ensures up_to_date { IsUpToDate checker.new store.old.kept.units }
+{
+    // Its clauses tell what holds of the targets and units of the store.
+    let _there = store.targets();
+    if targets.len() > MOST_TARGETS {
+        return refusal(alloc, k, output, 1, "TooManyTargets");
+    }
+    let changes = store.changes(targets)?;
+    if !have_spelling(&changes) {
+        return refusal(alloc, k, output, 1, "TooLarge");
+    }
+    assure(alloc, store, checker, targets, &changes)?;
+    let line = ok_line(alloc, k)?;
+    let ending = Ending { output, line, quit };
+    keep(alloc, store, host, changes, ending, k)
+}
+
+/// Types fit the targets that a command left: no input leads one that was accepted to others. Where the host tells nothing of its
+/// input nothing is known of the run, so those that have changed are checked; others are told as want of memory.
+fn assure(
+    alloc: Global,
+    store: &Store,
+    checker: &mut Option<Checker>,
+    targets: &Targets,
+    changes: &[Change],
+) -> Result<(), OutOfMemory>
+    requires up_to_date { IsUpToDate checker.old store.now.kept.units }
+    requires lead { changed_by changes.now store.now.kept ≡ Some (with_targets store.now.kept targets.now) }
+    ensures typed { OnOk result (IsWellTyped (with_targets store.now.kept targets.now)) }
+    ensures up_to_date { IsUpToDate checker.new store.now.kept.units }
+{
+    // Its clauses tell that types fit what the store holds.
+    let _there = store.targets();
+    if changes.is_empty() {
+        return Ok(());
+    }
+    if targets_fit(alloc, store, checker, targets)? {
+        return Ok(());
+    }
+    Err(OutOfMemory)
 }
 
 /// Keeps the changes of an item, and answers it. All memory is taken before the first write.
@@ -117,80 +161,22 @@ pub(crate) fn keep<H: Host>(
         (stored store.old.bounds (work_of store.old) changes.items later)) }
 {
     let Ending { output, line, quit } = ending;
-    let replies = match Replies::new(alloc, output, line, k) {
-        Ok(replies) => replies,
-        Err(OutOfMemory) => return Err(AnswerFault::Memory),
-    };
+    let replies = Replies::new(alloc, output, line, k)?;
     let committed = store.commit(host, changes);
     replies.told(committed, quit)
 }
 
-/// Types fit the targets that a command left: no input leads one that was accepted to others. Where the host tells nothing of its
-/// input nothing is known of the run, so those that have changed are checked; others are told as want of memory.
-fn assure(
-    alloc: Global,
-    store: &Store,
-    checker: &mut Option<Checker>,
-    targets: &Targets,
-    changes: &[Change],
-) -> Result<(), OutOfMemory>
-    requires up_to_date { IsUpToDate checker.old store.now.kept.units }
-    requires lead { changed_by changes.now store.now.kept ≡ Some (with_targets store.now.kept targets.now) }
-    ensures typed { OnOk result (IsWellTyped (with_targets store.now.kept targets.now)) }
-    ensures up_to_date { IsUpToDate checker.new store.now.kept.units }
+/// The answer that is this reply line behind what was written. There is room for it, so no memory is taken.
+fn closed(written: Vec<u8>, line: &[u8], quit: bool) -> Answer
+    requires { vec_len written + length line.now ≤ vec_capacity written }
+    ensures { result ≡ record { reply = written.items ++ line.now; quit = quit } }
 {
-    // Its clause tells that types fit what the store holds.
-    let _there = store.targets();
-    if changes.is_empty() {
-        return Ok(());
-    }
-    if targets_fit(alloc, store, checker, targets)? {
-        return Ok(());
-    }
-    Err(OutOfMemory)
-}
-
-/// Keeps the targets that a command left which wrote this, and answers it.
-pub(crate) fn keep_targets<H: Host>(
-    alloc: Global,
-    store: &mut Store,
-    checker: &mut Option<Checker>,
-    host: &mut H,
-    targets: &Targets,
-    output: Vec<u8>,
-    quit: bool,
-    k: u64,
-) -> Result<Answer, AnswerFault>
-    requires sound { IsTrue store.old.sound }
-    requires holds { H.tells_image → Holds (H.now host.old).image (work_of store.old) }
-    requires up_to_date { IsUpToDate checker.old store.old.kept.units }
-    ensures settles { (left : List RawLine) → Settles H.tells_image H.now H.clock H.stopped store.old store.new host.old host.new result left
-        (kept_outcome store.old.bounds k (work_of store.old) (record { output = output.items; left = left; line = ok k; quits = quit }) targets.now) }
-    ensures up_to_date { IsUpToDate checker.new store.old.kept.units }
-{
-    let _there = store.targets();
-    if targets.len() > MOST_TARGETS {
-        return refusal(alloc, k, output, 1, "TooManyTargets");
-    }
-    let changes = match store.changes(targets) {
-        Ok(changes) => changes,
-        Err(OutOfMemory) => return Err(AnswerFault::Memory),
-    };
-    if !have_spelling(&changes) {
-        return refusal(alloc, k, output, 1, "TooLarge");
-    }
-    let Ok(()) = assure(alloc, store, checker, targets, &changes) else {
-        return Err(AnswerFault::Memory);
-    };
-    match ok_line(alloc, k) {
-        Ok(line) => keep(
-            alloc,
-            store,
-            host,
-            changes,
-            Ending { output, line, quit },
-            k,
-        ),
-        Err(OutOfMemory) => Err(AnswerFault::Memory),
+    let mut reply = written;
+    match reply.extend_from_slice(line) {
+        Ok(()) => Answer {
+            reply: Text::from_vec(reply),
+            quit,
+        },
+        Err(_) => unreachable!(),
     }
 }

@@ -6,8 +6,8 @@ use abc_parse::{numbered_items, regular_items};
 use abc_sound::checked_items_are_never_wrong;
 use abc_store::laws::{kept_units_are_regular, units_are_set};
 
-/// What an item comes to over some lines stays so whatever lines follow; it leaves no more lines than there were; and none is wanted at
-/// the end of the input.
+/// What an item comes to over some lines stays so whatever lines follow; it leaves no more lines than there were; and none is
+/// wanted at the end of the input.
 pub fn outcomes_are_steady()
     ensures came_stays { CameStays }
     ensures no_longer { LeavesNoMore }
@@ -32,8 +32,8 @@ pub fn missing_is_least()
     ensures none { NoneIsLeft }
 {}
 
-/// Whatever is told as the type line of an item, it comes to the same; and where each item is taken or not taken up to each line, there
-/// is a check that tells exactly the type lines.
+/// Whatever is told as the type line of an item, it comes to the same; and where each item is taken or not taken up to each line,
+/// there is a check that tells exactly the type lines.
 pub fn type_lines_are_one()
     ensures one { TypeLinesAreOne }
     ensures there { AnExactCheckIsThere }
@@ -41,8 +41,8 @@ pub fn type_lines_are_one()
     units_are_set();
 }
 
-/// A command that reaches no missing unit and that types fit is never wrong over what a store holds, whatever stands behind it, and types
-/// fit the targets that it leaves.
+/// A command that reaches no missing unit and that types fit is never wrong over what a store holds, whatever stands behind it,
+/// and types fit the targets that it leaves.
 pub fn accepted_commands_are_never_wrong()
     ensures { AcceptedIsNeverWrong }
 {

@@ -24,25 +24,31 @@ use abc_tree::{Unit, Units};
 use std::alloc::Global;
 use std::slice;
 
-/// The reply line of a unit among the units that there are. Only units that it reaches are read.
-fn ending_line(alloc: Global, units: &Units, unit: &Unit, k: u64) -> Result<Vec<u8>, OutOfMemory>
-    ensures { IfOk result (λ line. line.items ≡ accepted_line k unit.now (with_unit unit.now units.now)) }
+/// Answers a unit, which its own lines spell. What the type check knew of the units is forgotten, since it may be kept.
+pub(crate) fn answer_unit<H: Host>(
+    alloc: Global,
+    store: &mut Store,
+    checker: &mut Option<Checker>,
+    host: &mut H,
+    unit: Unit,
+    k: u64,
+) -> Result<Answer, AnswerFault>
+    requires sound { IsTrue store.old.sound }
+    requires holds { H.tells_image → Holds (H.now host.old).image (work_of store.old) }
+    requires spelled { unit_of_lines unit.lines ≡ Some unit }
+    requires some { 1 ≤ length unit.lines }
+    requires up_to_date { IsUpToDate checker.old store.old.kept.units }
+    ensures comes { (line : Option ℕ) → TellsTypeLine (TakesUnit store.old.kept unit) (length unit.lines) line → (behind : Behind) → Settles H.tells_image H.now H.clock H.stopped store.old store.new host.old host.new result behind.lines
+        (unit_outcome line store.old.bounds k (work_of store.old) behind unit) }
+    ensures told { ((line : Option ℕ) × TellsTypeLine (TakesUnit store.old.kept unit) (length unit.lines) line) ⊎ (IsErrOf result AnswerFault.Memory × (store.new ≡ store.old) × (host.new ≡ host.old)) }
+    ensures settles { (behind : Behind) → (out : Outcome) × Settles H.tells_image H.now H.clock H.stopped store.old store.new host.old host.new result behind.lines out }
+    ensures up_to_date { ¬ (IsErrOf result AnswerFault.StoreFault) → IsUpToDate checker.new store.new.kept.units }
 {
-    let template = unit.template.text(alloc)?;
-    let missing = first_missing_with(alloc, units, unit, slice::from_ref(&unit.template))?;
-    match missing {
-        None => unit_line(alloc, k, &template),
-        Some(missing) => waiting_line(alloc, k, &template, &missing.text(alloc)?),
+    if let Some(line) = unit_type_line(alloc, store, &unit)? {
+        return refusal(alloc, k, Vec::new(alloc), line, "TypeFault");
     }
-}
-
-/// The change that sets a unit.
-fn setting(alloc: Global, unit: Unit) -> Result<Vec<Change>, OutOfMemory>
-    ensures { IfOk result (λ changes. changes.items ≡ SetUnit unit.lines ∷ []) }
-{
-    let mut changes = Vec::new(alloc);
-    changes.push(Change::SetUnit { lines: unit.lines })?;
-    Ok(changes)
+    *checker = None;
+    set_unit(alloc, store, host, unit, k)
 }
 
 /// Answers a unit that types fit, and which its own lines spell.
@@ -66,53 +72,32 @@ fn set_unit<H: Host>(
     if !are_spelled_lines(unit.lines.as_slice()) {
         return refusal(alloc, k, Vec::new(alloc), 1, "TooLarge");
     }
-    let line = match ending_line(alloc, store.units(), &unit, k) {
-        Ok(line) => line,
-        Err(OutOfMemory) => return Err(AnswerFault::Memory),
+    let ending = Ending {
+        output: Vec::new(alloc),
+        line: ending_line(alloc, store.units(), &unit, k)?,
+        quit: false,
     };
-    match setting(alloc, unit) {
-        Ok(changes) => keep(
-            alloc,
-            store,
-            host,
-            changes,
-            Ending {
-                output: Vec::new(alloc),
-                line,
-                quit: false,
-            },
-            k,
-        ),
-        Err(OutOfMemory) => Err(AnswerFault::Memory),
-    }
+    let changes = setting(alloc, unit)?;
+    keep(alloc, store, host, changes, ending, k)
 }
 
-/// Answers a unit, which its own lines spell. What the type check knew of the units is forgotten, since it may be kept.
-pub(crate) fn answer_unit<H: Host>(
-    alloc: Global,
-    store: &mut Store,
-    checker: &mut Option<Checker>,
-    host: &mut H,
-    unit: Unit,
-    k: u64,
-) -> Result<Answer, AnswerFault>
-    requires sound { IsTrue store.old.sound }
-    requires holds { H.tells_image → Holds (H.now host.old).image (work_of store.old) }
-    requires spelled { unit_of_lines unit.lines ≡ Some unit }
-    requires some { 1 ≤ length unit.lines }
-    requires up_to_date { IsUpToDate checker.old store.old.kept.units }
-    ensures comes { (line : Option ℕ) → TellsTypeLine (TakesUnit store.old.kept unit) (length unit.lines) line → (behind : Behind) → Settles H.tells_image H.now H.clock H.stopped store.old store.new host.old host.new result behind.lines
-        (unit_outcome line store.old.bounds k (work_of store.old) behind unit) }
-    ensures told { ((line : Option ℕ) × TellsTypeLine (TakesUnit store.old.kept unit) (length unit.lines) line) ⊎ (IsErrOf result AnswerFault.Memory × (store.new ≡ store.old) × (host.new ≡ host.old)) }
-    ensures settles { (behind : Behind) → (out : Outcome) × Settles H.tells_image H.now H.clock H.stopped store.old store.new host.old host.new result behind.lines out }
-    ensures up_to_date { ¬ (IsErrOf result AnswerFault.StoreFault) → IsUpToDate checker.new store.new.kept.units }
+/// The change that sets a unit.
+fn setting(alloc: Global, unit: Unit) -> Result<Vec<Change>, OutOfMemory>
+    ensures { IfOk result (λ changes. changes.items ≡ SetUnit unit.lines ∷ []) }
 {
-    match unit_type_line(alloc, store, &unit) {
-        Ok(None) => {
-            *checker = None;
-            set_unit(alloc, store, host, unit, k)
-        }
-        Ok(Some(line)) => refusal(alloc, k, Vec::new(alloc), line, "TypeFault"),
-        Err(OutOfMemory) => Err(AnswerFault::Memory),
+    let mut changes = Vec::new(alloc);
+    changes.push(Change::SetUnit { lines: unit.lines })?;
+    Ok(changes)
+}
+
+/// The reply line of a unit among the units that there are. Only units that it reaches are read.
+fn ending_line(alloc: Global, units: &Units, unit: &Unit, k: u64) -> Result<Vec<u8>, OutOfMemory>
+    ensures { IfOk result (λ line. line.items ≡ accepted_line k unit.now (with_unit unit.now units.now)) }
+{
+    let template = unit.template.text(alloc)?;
+    let missing = first_missing_with(alloc, units, unit, slice::from_ref(&unit.template))?;
+    match missing {
+        None => unit_line(alloc, k, &template),
+        Some(missing) => waiting_line(alloc, k, &template, &missing.text(alloc)?),
     }
 }

@@ -11,7 +11,7 @@ returns g c later left lead =
     let found = stored c.args.store.now.bounds (work_of c.args.store.now) c.args.changes.items later in
     let done = c.commit-committed.ensures in
     kept_answers g.H.Host.tells_image g.H.Host.now g.H.Host.clock g.H.Host.stopped c.args.store.now c.commit-committed.new.self c.args.host.now c.commit-committed.new.host found c.commit-committed.result c.told.result
-    c.args.k ending c.in-Ok.replies.written.items c.in-Ok.replies.kept.items c.in-Ok.replies.full.items c.in-Ok.replies.large.items
+    c.args.k ending c.in_ok-replies.replies.written.items c.in_ok-replies.replies.kept.items c.in_ok-replies.replies.full.items c.in_ok-replies.replies.large.items
     (record {
       answer = done.answer later lead;
       work = done.work later lead;
@@ -26,6 +26,6 @@ returns g c later left lead =
       unsound = done.unsound;
       quiet = done.quiet;
     })
-    c.told.ensures c.in-Ok.ensures.written c.in-Ok.ensures.kept c.in-Ok.ensures.full c.in-Ok.ensures.large
+    c.told.ensures c.in_ok-replies.ensures.written c.in_ok-replies.ensures.kept c.in_ok-replies.ensures.full c.in_ok-replies.ensures.large
     (λ told quiet. commit_stops g.H.Host.tells_image g.H.Host.now g.H.Host.clock g.H.Host.stopped c.args.store.now c.args.host.now c.commit-committed.new.host c.args.changes.items later found c.args.k ending lead refl
     (done.stops told quiet later lead) (λ refusal is. done.unfit_stops told quiet later refusal lead is))

@@ -1,4 +1,4 @@
-use Rattle.std.proofs.Common.{ℕ, List, [], length, codes, Option, None, Some, inl, inr, refl, subst}
+use Rattle.std.proofs.Common.{rules, ℕ, List, [], length, codes, Option, None, Some, inl, inr, refl, subst}
 use Rattle.abc_store.specs.View.{work_of}
 use Rattle.abc_outcome.specs.Checks.{TakesUnit, TellsTypeLine}
 use Rattle.abc_outcome.specs.Outcome.{ends_with, set_outcome, unless_unfit}
@@ -13,44 +13,44 @@ use Rattle.abc_outcome.proofs.units.answer_unit.Goals as goal
 
 -- it is refused on the line that the check found
 refused_there : (g : Over) (c : After-refusal g) (left : List _) → Settles g.H.Host.tells_image g.H.Host.now g.H.Host.clock g.H.Host.stopped c.args.store.now c.args.store.now c.args.host.now c.args.host.now c.refusal.result left
-    (ends_with (work_of c.args.store.now) left [] (fault_line c.args.k c.in-Ok-Some.line (codes "TypeFault")))
+    (ends_with (work_of c.args.store.now) left [] (fault_line c.args.k c.in-Some.line (codes "TypeFault")))
 refused_there g c left =
-    let line = fault_line c.args.k c.in-Ok-Some.line (codes "TypeFault") in
+    let line = fault_line c.args.k c.in-Some.line (codes "TypeFault") in
     let told : Refuses (said [] line) c.refusal.result = subst (λ (output : List ℕ). Refuses (said output line) c.refusal.result) c.new.ensures.items c.refusal.ensures in
     refused g.H.Host.tells_image g.H.Host.now g.H.Host.clock g.H.Host.stopped c.args.store.now c.args.host.now left [] line c.refusal.result c.requires.sound c.requires.holds told
 
 pub set_unit-requires-clause-fits : goal.set_unit-requires-clause-fits
-set_unit-requires-clause-fits g c = subst (TellsTypeLine (TakesUnit c.args.store.now.kept c.args.unit) (length c.args.unit.lines)) c.in-Ok-None.field-0-is c.in-Ok-None.ensures
+set_unit-requires-clause-fits g c = subst (TellsTypeLine (TakesUnit c.args.store.now.kept c.args.unit) (length c.args.unit.lines)) c.in_default.is c.in_ok-line.ensures
 
-pub returns-in-Ok-None-clause-comes : goal.returns-in-Ok-None-clause-comes
-returns-in-Ok-None-clause-comes g c line tells behind =
+pub returns-clause-comes : goal.returns-clause-comes
+returns-clause-comes g c line tells behind =
     let work = work_of c.args.store.now in
     let unit = c.args.unit in
-    let same = lines_are_one (TakesUnit work.kept unit) (length unit.lines) None line (subst (TellsTypeLine (TakesUnit work.kept unit) (length unit.lines)) c.in-Ok-None.field-0-is c.in-Ok-None.ensures) tells in
+    let same = lines_are_one (TakesUnit work.kept unit) (length unit.lines) None line (subst (TellsTypeLine (TakesUnit work.kept unit) (length unit.lines)) c.in_default.is c.in_ok-line.ensures) tells in
     subst (λ (line : Option ℕ). Settles g.H.Host.tells_image g.H.Host.now g.H.Host.clock g.H.Host.stopped c.args.store.now c.set_unit.new.store c.args.host.now c.set_unit.new.host c.set_unit.result behind.lines
     (unless_unfit c.args.k work behind line (set_outcome c.args.store.now.bounds c.args.k work behind unit))) same (c.set_unit.ensures behind)
 
-pub returns-in-Ok-None-clause-settles : goal.returns-in-Ok-None-clause-settles
-returns-in-Ok-None-clause-settles g c behind = (set_outcome c.args.store.now.bounds c.args.k (work_of c.args.store.now) behind c.args.unit, c.set_unit.ensures behind)
+pub returns-clause-settles : goal.returns-clause-settles
+returns-clause-settles g c behind = (set_outcome c.args.store.now.bounds c.args.k (work_of c.args.store.now) behind c.args.unit, c.set_unit.ensures behind)
 
-pub returns-in-Ok-Some-clause-comes : goal.returns-in-Ok-Some-clause-comes
-returns-in-Ok-Some-clause-comes g c line tells behind =
+pub returns-in-Some-clause-comes : goal.returns-in-Some-clause-comes
+returns-in-Some-clause-comes g c line tells behind =
     let work = work_of c.args.store.now in
     let unit = c.args.unit in
-    let same = lines_are_one (TakesUnit work.kept unit) (length unit.lines) (Some c.in-Ok-Some.line) line (subst (TellsTypeLine (TakesUnit work.kept unit) (length unit.lines)) c.in-Ok-Some.field-0-is c.in-Ok-Some.ensures) tells in
+    let same = lines_are_one (TakesUnit work.kept unit) (length unit.lines) (Some c.in-Some.line) line (subst (TellsTypeLine (TakesUnit work.kept unit) (length unit.lines)) c.in-Some.is c.in_ok-line.ensures) tells in
     subst (λ (line : Option ℕ). Settles g.H.Host.tells_image g.H.Host.now g.H.Host.clock g.H.Host.stopped c.args.store.now c.args.store.now c.args.host.now c.args.host.now c.refusal.result behind.lines
     (unless_unfit c.args.k work behind line (set_outcome c.args.store.now.bounds c.args.k work behind unit))) same
-    (refused_there g (goal.at.returns-in-Ok-Some-clause-comes g c).After-refusal behind.lines)
+    (refused_there g (goal.at.returns-in-Some-clause-comes g c).After-refusal behind.lines)
 
-pub returns-in-Ok-Some-clause-settles : goal.returns-in-Ok-Some-clause-settles
-returns-in-Ok-Some-clause-settles g c behind =
-    (ends_with (work_of c.args.store.now) behind.lines [] (fault_line c.args.k c.in-Ok-Some.line (codes "TypeFault")), refused_there g (goal.at.returns-in-Ok-Some-clause-settles g c).After-refusal behind.lines)
+pub returns-in-Some-clause-settles : goal.returns-in-Some-clause-settles
+returns-in-Some-clause-settles g c behind =
+    (ends_with (work_of c.args.store.now) behind.lines [] (fault_line c.args.k c.in-Some.line (codes "TypeFault")), refused_there g (goal.at.returns-in-Some-clause-settles g c).After-refusal behind.lines)
 
-pub returns-in-Ok-None-clause-told : goal.returns-in-Ok-None-clause-told
-returns-in-Ok-None-clause-told g c = inl (None, subst (TellsTypeLine (TakesUnit c.args.store.now.kept c.args.unit) (length c.args.unit.lines)) c.in-Ok-None.field-0-is c.in-Ok-None.ensures)
+pub returns-clause-told : goal.returns-clause-told
+returns-clause-told g c = inl (None, subst (TellsTypeLine (TakesUnit c.args.store.now.kept c.args.unit) (length c.args.unit.lines)) c.in_default.is c.in_ok-line.ensures)
 
-pub returns-in-Ok-Some-clause-told : goal.returns-in-Ok-Some-clause-told
-returns-in-Ok-Some-clause-told g c = inl (Some c.in-Ok-Some.line, subst (TellsTypeLine (TakesUnit c.args.store.now.kept c.args.unit) (length c.args.unit.lines)) c.in-Ok-Some.field-0-is c.in-Ok-Some.ensures)
+pub returns-in-Some-clause-told : goal.returns-in-Some-clause-told
+returns-in-Some-clause-told g c = inl (Some c.in-Some.line, subst (TellsTypeLine (TakesUnit c.args.store.now.kept c.args.unit) (length c.args.unit.lines)) c.in-Some.is c.in_ok-line.ensures)
 
-pub returns-in-Err-clause-told : goal.returns-in-Err-clause-told
-returns-in-Err-clause-told g c = inr (refl, refl, refl)
+pub returns-in_err-line-clause-told : goal.returns-in_err-line-clause-told
+returns-in_err-line-clause-told g c = inr (search rules, refl, refl)

@@ -22,7 +22,7 @@ pub keep-requires-clause-later : goal.keep-requires-clause-later
 keep-requires-clause-later g c =
     let there : c.has_room_for.result ≡ true = search rules in (
       with_routine c.args.store.now.kept c.args.unit,
-      unit_leads c.args.store.now.kept c.args.unit c.in-Ok-setting.changes.items c.requires.spelled c.in-Ok-setting.ensures,
+      unit_leads c.args.store.now.kept c.args.unit c.in_ok-changes.changes.items c.requires.spelled c.in_ok-changes.ensures,
       c.has_room_for.ensures.room there,
       typed_from c.args.store.now.kept.targets (with_unit c.args.unit c.args.store.now.kept.units)
           (subst (λ (w : List Cut). IsTypable c.args.store.now.kept.targets w) (whole_with c.args.unit c.args.store.now.kept.units) c.requires.fits),
@@ -31,10 +31,10 @@ keep-requires-clause-later g c =
 pub keep-requires-clause-kept : goal.keep-requires-clause-kept
 keep-requires-clause-kept g c =
     let spelled : c.are_spelled_lines.result ≡ true = search rules in
-    unit_is_kept c.args.unit c.in-Ok-setting.changes.items (subst AreKeptLines c.as_slice.ensures (c.are_spelled_lines.ensures.kept spelled)) c.in-Ok-setting.ensures
+    unit_is_kept c.args.unit c.in_ok-changes.changes.items (subst AreKeptLines c.as_slice.ensures (c.are_spelled_lines.ensures.kept spelled)) c.in_ok-changes.ensures
 
-pub returns-in-Ok-setting : goal.returns-in-Ok-setting
-returns-in-Ok-setting g c behind =
+pub returns : goal.returns
+returns g c behind =
     let unit = c.args.unit in
     let work = work_of c.args.store.now in
     let later = with_routine work.kept unit in
@@ -42,10 +42,10 @@ returns-in-Ok-setting g c behind =
     let room : IsWithinLimits later = c.has_room_for.ensures.room there in
     let spelled : are_spelled_lines unit.lines ≡ true = search rules in
     subst (λ (out : Outcome). Settles g.H.Host.tells_image g.H.Host.now g.H.Host.clock g.H.Host.stopped c.args.store.now c.keep.new.store c.args.host.now c.keep.new.host c.keep.result behind.lines out)
-    (ap (λ (output : List ℕ). on_stored c.args.k work (record { output = output; left = behind.lines; line = c.in-Ok.line.items; quits = false }) (stored c.args.store.now.bounds work c.in-Ok-setting.changes.items later)) c.new-in-Ok-setting.ensures.items
-    ∙ unit_kept c.args.store.now.bounds c.args.k work behind unit c.in-Ok-setting.changes.items c.in-Ok.line.items room.units spelled
-    (c.in-Ok.ensures ∙ ap (λ (units : List Routine). accepted_line c.args.k unit (with_unit unit units)) c.units.ensures.units) c.in-Ok-setting.ensures)
-    (c.keep.ensures later behind.lines (unit_leads work.kept unit c.in-Ok-setting.changes.items c.requires.spelled c.in-Ok-setting.ensures))
+    (ap (λ (output : List ℕ). on_stored c.args.k work (record { output = output; left = behind.lines; line = c.in_ok-ending_line.field-0.items; quits = false }) (stored c.args.store.now.bounds work c.in_ok-changes.changes.items later)) c.new-2.ensures.items
+    ∙ unit_kept c.args.store.now.bounds c.args.k work behind unit c.in_ok-changes.changes.items c.in_ok-ending_line.field-0.items room.units spelled
+    (c.in_ok-ending_line.ensures ∙ ap (λ (units : List Routine). accepted_line c.args.k unit (with_unit unit units)) c.units.ensures.units) c.in_ok-changes.ensures)
+    (c.keep.ensures later behind.lines (unit_leads work.kept unit c.in_ok-changes.changes.items c.requires.spelled c.in_ok-changes.ensures))
 
 pub returns-then-not-has_room_for : goal.returns-then-not-has_room_for
 returns-then-not-has_room_for g c behind =
