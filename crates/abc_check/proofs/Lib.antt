@@ -2,7 +2,7 @@
 pub mod Accepting
 pub mod Alike
 pub mod Beginning
-pub mod Demanding
+pub mod Ending
 pub mod Finding
 pub mod Grouping
 pub mod Halving

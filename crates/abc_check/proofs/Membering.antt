@@ -1,81 +1,96 @@
 -- The units of a workspace as cuts, each at its place.
-use Rattle.std.proofs.Common.{◌≡◌, ◌∙◌, ℕ, zero, suc, ◌+◌, true, List, [], ◌∷◌, ◌++◌, length, drop, ap, sym, refl, append_assoc, append-nil, arith}
-use Rattle.std.specs.Prelude.{Some, None, slice_get}
-use Rattle.std.specs.List.{AllByRecursion}
-use Rattle.std.proofs.lemmas.List.{map-append}
+use Rattle.std.proofs.Common.{◌≡◌, ◌∙◌, ◌<◌, ◌≤◌, ℕ, zero, suc, ◌+◌, true, List, [], ◌∷◌, ◌++◌, length, map, take, set, get_or, ap, sym, subst, refl, arith}
+use Rattle.std.specs.Prelude.{Some, None, slice_get, slice_index_or}
+use Rattle.std.specs.List.{AllByRecursion, insert}
+use Rattle.std.proofs.lemmas.List.{map-append, map-set, length-map, length-append, take_all, get_or-map}
 use Rattle.std.specs.declared.cmp.Ordering.{Ordering}
-use Rattle.std.specs.declared.cmp.Ordering.TheVariants.{Less, Equal, Greater}
-use Rattle.std.specs.Ordering.{match_ordering}
+use Rattle.std.specs.declared.cmp.Ordering.TheVariants.{Less}
 use Rattle.abc_tree.specs.Templates.{template_cmp}
 use Rattle.abc_tree.specs.Ordered.{RiseBy, placed_by}
 use Rattle.abc_tree.specs.Units.{AreRising}
+use Rattle.abc_tree.specs.inner.Search.{IsAt, IsGap}
+use Rattle.abc_tree.specs.declared.templates.Template.{Template}
 use Rattle.abc_tree.specs.declared.commands.Unit.{Unit as Routine}
-use Rattle.abc_tree.proofs.Rising.{rise_placed}
-use Rattle.abc_ground.specs.Groups.{Cut, template_of, whole, with_cut}
+use Rattle.abc_tree.proofs.Rising.{found_at, newer_at, none_in_gap, placed_in_gap, read_at, rise_placed}
+use Rattle.abc_ground.specs.Groups.{Cut, cut_of, template_of, whole, with_cut}
 use Rattle.abc_principal.specs.declared.member.Member.{Member}
 use Rattle.abc_principal.specs.Exact.{cut_in, cuts_of}
+use Rattle.abc_check.proofs.PartVars.{past, take_next}
 
 -- a unit of which so many lines count
 abbrev pub cut_after : Routine → ℕ → Cut
 cut_after unit n = record { unit = unit; lines = n }
 
--- ---- what is left from a place on
+abbrev all_of : Routine → Cut
+all_of u = cut_after u (length u.lines)
 
-pub left_at : {X : Type 0} (xs : List X) (i : ℕ) (x : X) → slice_get xs i ≡ Some x → drop i xs ≡ x ∷ drop (i + 1) xs
-left_at [] i x at = absurd (cc)
-left_at (y ∷ xs) zero x at = let f : y ≡ x = cc in ap (λ z. z ∷ xs) f
-left_at (y ∷ xs) (suc i) x at = let more : suc (i + 1) ≡ suc i + 1 = omega arith in left_at xs i x at ∙ ap (λ n. x ∷ drop n (y ∷ xs)) more
+-- ---- the first units, one after the other
 
-pub none_left : {X : Type 0} (xs : List X) (i : ℕ) → slice_get xs i ≡ None → drop i xs ≡ []
-none_left [] zero none = refl
-none_left [] (suc i) none = refl
-none_left (y ∷ xs) zero none = absurd (cc)
-none_left (y ∷ xs) (suc i) none = none_left xs i none
-
--- one unit more was added
-pub whole_next : (units : List Routine) (i : ℕ) (unit : Routine) (old now next : List Cut) (first : ℕ) → slice_get units i ≡ Some unit → old ++ whole (drop first units) ≡ now ++ whole (drop i units) → next ≡ now ++ whole (unit ∷ [])
-    → old ++ whole (drop first units) ≡ next ++ whole (drop (i + 1) units)
-whole_next units i unit old now next first at so_far is =
-    so_far ∙ (ap (λ us. now ++ whole us) (left_at units i unit at) ∙ (sym (append_assoc now (whole (unit ∷ [])) (whole (drop (i + 1) units))) ∙ ap (λ cs. cs ++ whole (drop (i + 1) units)) (sym is)))
+pub whole_next : (units : List Routine) (u : Routine) (ms more : List Member) (m : Member) (n : ℕ) → n ≡ length ms → slice_get units n ≡ Some u → cut_in m ≡ all_of u → cuts_of ms ≡ whole (take (length ms) units) → more ≡ ms ++ m ∷ []
+    → cuts_of more ≡ whole (take (length more) units)
+whole_next units u ms more m n count at is so_far pushed =
+    let here : slice_get units (length ms) ≡ Some u = subst (λ i. slice_get units i ≡ Some u) count at in
+    let next : length more ≡ length ms + 1 = ap length pushed ∙ length-append ms (m ∷ []) in
+    ap cuts_of pushed
+    ∙ (map-append cut_in ms (m ∷ [])
+    ∙ (ap (λ (c : Cut). cuts_of ms ++ c ∷ []) is
+    ∙ (ap (λ (cs : List Cut). cs ++ all_of u ∷ []) so_far
+    ∙ (sym (map-append all_of (take (length ms) units) (u ∷ []))
+    ∙ (ap whole (take_next units (length ms) u here)
+    ∙ ap (λ i. whole (take i units)) (sym next))))))
 
 -- and these are all
-pub whole_ended : (units : List Routine) (i : ℕ) (old now : List Cut) (first : ℕ) → slice_get units i ≡ None → old ++ whole (drop first units) ≡ now ++ whole (drop i units) → now ≡ old ++ whole (drop first units)
-whole_ended units i old now first none so_far = sym (append-nil now) ∙ (ap (λ us. now ++ whole us) (sym (none_left units i none)) ∙ sym so_far)
+pub whole_ended : (units : List Routine) (ms : List Member) (n : ℕ) → n ≡ length ms → slice_get units n ≡ None → cuts_of ms ≡ whole (take (length ms) units) → cuts_of ms ≡ whole units
+whole_ended units ms n count none so_far =
+    let end : slice_get units (length ms) ≡ None = subst (λ i. slice_get units i ≡ None) count none in
+    so_far ∙ ap whole (take_all (length ms) units (past units (length ms) end))
+
+-- ---- the unit at a place
+
+module _ (ms : List Member) (i : ℕ) (m : Member) (inside : i < length ms) (is : m ≡ get_or ms i m) where
+  pub cut_read : (d : Cut) → slice_index_or (cuts_of ms) i d ≡ cut_in m
+  cut_read d = get_or-map cut_in ms i m d inside ∙ ap cut_in (sym is)
+
+  -- as its template was compared
+  pub cut_compared : (t : Template) (o : Ordering) → template_cmp m.unit.now.template t ≡ o → (d : Cut) → template_cmp (template_of (slice_index_or (cuts_of ms) i d)) t ≡ o
+  cut_compared t o is d = ap (λ (c : Cut). template_cmp (template_of c) t) (cut_read d) ∙ is
+
+module _ (ms : List Member) (t : Template) (rising : RiseBy template_of (cuts_of ms)) where
+  -- a place of a cut is one of a member
+  pub inside_cuts : (i : ℕ) → i < length (cuts_of ms) → i < length ms
+  inside_cuts i lt = omega (arith, lt, length-map ms cut_in)
+
+  pub found_there : (i : ℕ) (m : Member) → IsAt template_of (cuts_of ms) t i → m ≡ get_or ms i m → Some (cut_in m) ≡ cut_of t (cuts_of ms)
+  found_there i m at is =
+      read_at (cuts_of ms) i (cut_in m) at.inside (sym (cut_read ms i m (inside_cuts i at.inside) is (cut_in m))) ∙ sym (found_at template_of (cuts_of ms) t i rising at)
+
+  pub found_nowhere : (i : ℕ) → IsGap template_of (cuts_of ms) t i → None ≡ cut_of t (cuts_of ms)
+  found_nowhere i gap = sym (none_in_gap template_of (cuts_of ms) t i gap)
 
 -- ---- a unit at its place
 
-abbrev placed : Routine → ℕ → List Routine → List Cut
-placed unit n us = placed_by template_of true (cut_after unit n) (whole us)
+map_insert : {X Y : Type 0} (f : X → Y) (xs : List X) (i : ℕ) (x : X) → map f (insert xs i x) ≡ insert (map f xs) i (f x)
+map_insert f [] zero x = refl
+map_insert f [] (suc i) x = refl
+map_insert f (y ∷ xs) zero x = refl
+map_insert f (y ∷ xs) (suc i) x = ap (λ ys. f y ∷ ys) (map_insert f xs i x)
 
--- what is left of the units that stand before it
-abbrev pub IsLeft : List Cut → List Cut → Routine → List Routine → ℕ → Type 0
-IsLeft old now unit units i = (n : ℕ) → old ++ with_cut unit n units ≡ now ++ placed unit n (drop i units)
+module _ (ms : List Member) (units : List Routine) (unit : Routine) (n : ℕ) (m : Member) (are : cuts_of ms ≡ whole units) (is : cut_in m ≡ cut_after unit n) where
+  pub cut_replaced : (next : List Member) (i : ℕ) → RiseBy template_of (cuts_of ms) → IsAt template_of (cuts_of ms) unit.template i → next ≡ set ms i m → cuts_of next ≡ with_cut unit n units
+  cut_replaced next i rising at put =
+      ap cuts_of put
+      ∙ (map-set cut_in ms i m
+      ∙ (ap (λ (c : Cut). set (cuts_of ms) i c) is
+      ∙ (sym (newer_at template_of (cuts_of ms) (cut_after unit n) i rising at)
+      ∙ ap (λ (cs : List Cut). placed_by template_of true (cut_after unit n) cs) are)))
 
-abbrev pub IsSplit : List Cut → List Cut → Routine → List Routine → ℕ → Type 0
-IsSplit old now unit units i = (n : ℕ) → old ++ with_cut unit n units ≡ now ++ cut_after unit n ∷ whole (drop i units)
-
-before_here : (other unit : Routine) (n : ℕ) (us : List Routine) (o : Ordering) → template_cmp other.template unit.template ≡ o
-    → placed unit n (other ∷ us) ≡ match_ordering o (cut_after other (length other.lines) ∷ placed unit n us) (cut_after unit n ∷ whole us) (cut_after unit n ∷ whole (other ∷ us))
-before_here other unit n us o is = ap (λ r. match_ordering r (cut_after other (length other.lines) ∷ placed unit n us) (cut_after unit n ∷ whole us) (cut_after unit n ∷ whole (other ∷ us))) is
-
-module _ (old now : List Cut) (unit other : Routine) (units : List Routine) (i : ℕ) (at : slice_get units i ≡ Some other) (so_far : IsLeft old now unit units i) where
-  here : (o : Ordering) (n : ℕ) → template_cmp other.template unit.template ≡ o → old ++ with_cut unit n units
-      ≡ now ++ match_ordering o (cut_after other (length other.lines) ∷ placed unit n (drop (i + 1) units)) (cut_after unit n ∷ whole (drop (i + 1) units)) (cut_after unit n ∷ whole (other ∷ drop (i + 1) units))
-  here o n is = so_far n ∙ (ap (λ us. now ++ placed unit n us) (left_at units i other at) ∙ ap (λ cs. now ++ cs) (before_here other unit n (drop (i + 1) units) o is))
-
-  pub less_left : (next : List Cut) → template_cmp other.template unit.template ≡ Less → next ≡ now ++ whole (other ∷ []) → IsLeft old next unit units (i + 1)
-  less_left next is more n =
-      here Less n is ∙ (sym (append_assoc now (whole (other ∷ [])) (placed unit n (drop (i + 1) units))) ∙ ap (λ cs. cs ++ placed unit n (drop (i + 1) units)) (sym more))
-
-  pub equal_split : template_cmp other.template unit.template ≡ Equal → IsSplit old now unit units (i + 1)
-  equal_split is n = here Equal n is
-
-  pub greater_split : template_cmp other.template unit.template ≡ Greater → IsSplit old now unit units i
-  greater_split is n = here Greater n is ∙ ap (λ us. now ++ cut_after unit n ∷ whole us) (sym (left_at units i other at))
-
-pub last_split : (old now : List Cut) (unit : Routine) (units : List Routine) (i : ℕ) → slice_get units i ≡ None → IsLeft old now unit units i → IsSplit old now unit units i
-last_split old now unit units i none so_far n =
-    so_far n ∙ (ap (λ us. now ++ placed unit n us) (none_left units i none) ∙ ap (λ us. now ++ cut_after unit n ∷ whole us) (sym (none_left units i none)))
+  pub cut_inserted : (next : List Member) (i : ℕ) → IsGap template_of (cuts_of ms) unit.template i → next ≡ insert ms i m → cuts_of next ≡ with_cut unit n units
+  cut_inserted next i gap put =
+      ap cuts_of put
+      ∙ (map_insert cut_in ms i m
+      ∙ (ap (λ (c : Cut). insert (cuts_of ms) i c) is
+      ∙ (sym (placed_in_gap template_of true (cuts_of ms) (cut_after unit n) i gap)
+      ∙ ap (λ (cs : List Cut). placed_by template_of true (cut_after unit n) cs) are)))
 
 -- ---- they rise by their templates
 
@@ -87,19 +102,5 @@ pub whole_rises : (us : List Routine) → AreRising us → RiseBy template_of (w
 whole_rises [] r = tt
 whole_rises (u ∷ us) r = (whole_below u us r.0, whole_rises us r.1)
 
-pub cut_rises : (unit : Routine) (n : ℕ) (us : List Routine) → AreRising us → RiseBy template_of (with_cut unit n us)
-cut_rises unit n us r = rise_placed template_of true (cut_after unit n) (whole us) (whole_rises us r)
-
--- ---- before it, itself, and behind it
-
-pub cut_whole : (start one two three : List Member) (m : Member) (unit : Routine) (units : List Routine) (lines behind : ℕ) → start ≡ [] → IsSplit (cuts_of start) (cuts_of one) unit units behind → two ≡ one ++ m ∷ [] → cut_in m ≡ cut_after unit lines
-    → cuts_of three ≡ cuts_of two ++ whole (drop behind units) → cuts_of three ≡ with_cut unit lines units
-cut_whole start one two three m unit units lines behind none split pushed is all =
-    let w : List Cut = whole (drop behind units) in
-    all
-    ∙ (ap (λ (ms : List Member). cuts_of ms ++ w) pushed
-    ∙ (ap (λ (cs : List Cut). cs ++ w) (map-append cut_in one (m ∷ []))
-    ∙ (append_assoc (cuts_of one) (cut_in m ∷ []) w
-    ∙ (ap (λ (c : Cut). cuts_of one ++ c ∷ w) is
-    ∙ (sym (split lines)
-    ∙ ap (λ (ms : List Member). cuts_of ms ++ with_cut unit lines units) none)))))
+pub cut_rises : (unit : Routine) (n : ℕ) (us : List Routine) → RiseBy template_of (whole us) → RiseBy template_of (with_cut unit n us)
+cut_rises unit n us r = rise_placed template_of true (cut_after unit n) (whole us) r

@@ -184,11 +184,12 @@ never_part ss s old now vars at are never v gs proper m f =
     let r : (w : ℕ → Ground) × ((i : ℕ) → i < old.count → w i ≡ v i) × (types_of w vars ≡ p.0) × MeetsAll w now.demands = are.to v p.0 p.1 m p.2 in
     never r.0 p.3.0 p.3.1 r.3 p.3.2
 
+-- a list ends before a place where nothing is
+pub past : {X : Type 0} (xs : List X) (i : ℕ) → slice_get xs i ≡ None → length xs ≤ i
+past [] i none = omega arith
+past (x ∷ xs) zero none = absurd (cc)
+past (x ∷ xs) (suc i) none = omega (arith, past xs i none)
+
 -- all parts have variables
 pub parts_ended : (ss : List Form) (old now : Seen) (vars : List VarId) → slice_get ss (length vars) ≡ None → AreShapeVars (take (length vars) ss) old now vars → AreShapeVars ss old now vars
 parts_ended ss old now vars none are = subst (λ fs. AreShapeVars fs old now vars) (take_all (length vars) ss (past ss (length vars) none)) are
-  where
-    past : {X : Type 0} (xs : List X) (i : ℕ) → slice_get xs i ≡ None → length xs ≤ i
-    past [] i none = omega arith
-    past (x ∷ xs) zero none = absurd (cc)
-    past (x ∷ xs) (suc i) none = omega (arith, past xs i none)

@@ -33,15 +33,12 @@ fn ask_unit(
     ensures clash { result ≡ Err UnifyFault.Clash → (w cs : List Cut) → KnowsUnits known.now w → cut_of (template_of (cut_in member.now)) w ≡ Some (cut_in member.now) → SomeAsked w cs asked.old.graph.demands asked.old.targets → (targets : List ℕ → Ground) → AreProper targets → HaveSome w targets (cs ++ cut_in member.now ∷ []) → ⊥ }
     ensures made { OnOk result (TargetsMade asked.new.graph.count asked.new.targets) }
 {
-    let Ok(bytes) = member.unit.template.text(alloc) else {
-        return Err(UnifyFault::Memory);
-    };
-    let text = Text::from_vec(bytes);
+    let text = Text::from_vec(member.unit.template.text(alloc)?);
     match known.find(&text) {
-        Some(principal) => match principal.instance(alloc, &mut asked.graph, &mut asked.targets) {
-            Ok(_) => Ok(()),
-            Err(fault) => Err(fault),
-        },
+        Some(principal) => {
+            principal.instance(alloc, &mut asked.graph, &mut asked.targets)?;
+            Ok(())
+        }
         None => Ok(()),
     }
 }
@@ -62,10 +59,7 @@ pub fn asked_units(
         targets: TargetVars::new(alloc),
     };
     for member in members {
-        match ask_unit(alloc, &mut asked, member, known) {
-            Ok(()) => {}
-            Err(fault) => return Err(fault),
-        }
+        ask_unit(alloc, &mut asked, member, known)?;
     }
     Ok(asked)
 }

@@ -71,14 +71,8 @@ pub fn ask(
     ensures later { IsLater graph.old graph.new }
     ensures behind { (added : List (List ℕ × TheVar)) × (targets.new ≡ targets.old ++ added) }
 {
-    let Ok(templates) = command_nodes(alloc, command, upto) else {
-        return Err(UnifyFault::Memory);
-    };
-    match call_signatures(alloc, graph, targets, &[], &[], known, &templates) {
-        Ok(calls) => match demand(alloc, graph, targets, calls, command, upto) {
-            Ok(()) => Ok(()),
-            Err(fault) => Err(fault),
-        },
-        Err(fault) => Err(fault),
-    }
+    let templates = command_nodes(alloc, command, upto)?;
+    let calls = call_signatures(alloc, graph, targets, &[], &[], known, &templates)?;
+    demand(alloc, graph, targets, calls, command, upto)?;
+    Ok(())
 }

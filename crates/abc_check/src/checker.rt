@@ -20,7 +20,8 @@ use abc_unify::UnifyFault;
 use std::alloc::Global;
 
 /// The checker of a workspace: what is known of its units. The values of targets come with each check, so nothing is to be kept
-/// up to date when they change. A check costs the types of all targets and what is checked, but no walk over the units or the values.
+/// up to date when they change. A check of a command asks for the types of all targets and goes over the command, once each, and
+/// walks over no unit and no value. A command that is refused is gone over again each time that its lines are halved.
 #[derive(Drop)]
 pub enum Checker {
     Typable(UnitTypes),
@@ -79,6 +80,7 @@ impl Checker {
 
     /// Accepts a unit, in the place of the one with its template, exactly where the workspace is typable with all of it and these
     /// values of targets. Else it tells the line at fault: the first one such that nothing is typable with the unit cut after it.
+    /// All that is to be known of the units is made anew, and again each time that the lines of a refused unit are halved.
     pub fn check_unit(
         alloc: Global,
         targets: &Targets,
@@ -88,13 +90,11 @@ impl Checker {
         ensures ok { OnOk result (CutsAreSpelled (with_cut unit.now (length unit.now.lines) units.now) → IsTypable targets.now (with_cut unit.now (length unit.now.lines) units.now)) }
         ensures fault { (line : ℕ) → result ≡ Err (CheckFault.TypeFault line) → AllAreSpelled unit.now units.now → 1 ≤ length unit.now.lines → IsTypeLine (λ n. IsTypable targets.now (with_cut unit.now n units.now)) line × (IsTypable targets.now (with_cut unit.now (length unit.now.lines) units.now) → ⊥) }
     {
-        let Ok(lines) = line_count(unit) else {
-            return Err(CheckFault::Memory);
-        };
-        match fits_upto(alloc, targets, units, unit, lines) {
-            Ok(true) => Ok(()),
-            Ok(false) => Err(unit_fault(alloc, targets, units, unit, lines)),
-            Err(_) => Err(CheckFault::Memory),
+        let lines = line_count(unit)?;
+        if fits_upto(alloc, targets, units, unit, lines)? {
+            Ok(())
+        } else {
+            Err(unit_fault(alloc, targets, units, unit, lines))
         }
     }
 }
@@ -133,10 +133,10 @@ fn unit_line_between(
         return Ok(refused);
     }
     let middle = taken + (refused - taken) / 2;
-    match fits_upto(alloc, targets, units, unit, middle) {
-        Ok(true) => unit_line_between(alloc, targets, units, unit, middle, refused),
-        Ok(false) => unit_line_between(alloc, targets, units, unit, taken, middle),
-        Err(fault) => Err(fault),
+    if fits_upto(alloc, targets, units, unit, middle)? {
+        unit_line_between(alloc, targets, units, unit, middle, refused)
+    } else {
+        unit_line_between(alloc, targets, units, unit, taken, middle)
     }
 }
 

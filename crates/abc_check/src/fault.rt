@@ -12,6 +12,17 @@ pub enum CheckFault {
     Memory,
 }
 
+impl From<OutOfMemory> for CheckFault {
+    ghost use Rattle.std.specs.Prelude.{◌≡◌};
+    ghost use Rattle.abc_check.specs.declared.fault.CheckFault.TheVariants.{Memory};
+
+    ghost from_gives = { λ _ fault. fault ≡ Memory };
+
+    fn from(_refused: OutOfMemory) -> CheckFault {
+        CheckFault::Memory
+    }
+}
+
 /// Whether there are types, where demands were not added.
 pub(crate) fn no_types(fault: UnifyFault) -> Result<bool, OutOfMemory>
     ensures { IfOk result (λ answer. (answer ≡ false) × (fault ≡ UnifyFault.Clash)) }

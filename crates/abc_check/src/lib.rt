@@ -6,6 +6,7 @@ mod asking;
 mod checker;
 mod fault;
 mod laws;
+mod lines;
 mod members;
 mod outers;
 mod shapes;

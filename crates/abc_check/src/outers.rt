@@ -19,10 +19,8 @@ fn fresh_var(graph: &mut Graph) -> Result<VarId, UnifyFault>
     ensures clash { result ≡ Err UnifyFault.Clash → ⊥ }
     ensures later { IsLater graph.old graph.new }
 {
-    match graph.fresh() {
-        Ok(a) => Ok(a),
-        Err(_) => Err(UnifyFault::Memory),
-    }
+    let a = graph.fresh()?;
+    Ok(a)
 }
 
 /// A new variable that is this term.
@@ -33,10 +31,8 @@ fn node_var(graph: &mut Graph, term: Term) -> Result<VarId, UnifyFault>
     ensures clash { result ≡ Err UnifyFault.Clash → ⊥ }
     ensures later { IsLater graph.old graph.new }
 {
-    match graph.node(term) {
-        Ok(a) => Ok(a),
-        Err(_) => Err(UnifyFault::Memory),
-    }
+    let a = graph.node(term)?;
+    Ok(a)
 }
 
 /// A variable for any type.
@@ -46,10 +42,8 @@ fn any_var(graph: &mut Graph) -> Result<VarId, UnifyFault>
     ensures later { IsLater graph.old graph.new }
 {
     let _count = graph.count();
-    match fresh_var(graph) {
-        Ok(a) => Ok(a),
-        Err(fault) => Err(fault),
-    }
+    let a = fresh_var(graph)?;
+    Ok(a)
 }
 
 /// A variable for numbers.
@@ -59,10 +53,8 @@ fn number_var(graph: &mut Graph) -> Result<VarId, UnifyFault>
     ensures later { IsLater graph.old graph.new }
 {
     let _count = graph.count();
-    match node_var(graph, Term::Number) {
-        Ok(a) => Ok(a),
-        Err(fault) => Err(fault),
-    }
+    let a = node_var(graph, Term::Number)?;
+    Ok(a)
 }
 
 /// A variable for texts.
@@ -72,10 +64,8 @@ fn text_var(graph: &mut Graph) -> Result<VarId, UnifyFault>
     ensures later { IsLater graph.old graph.new }
 {
     let _count = graph.count();
-    match node_var(graph, Term::Text) {
-        Ok(a) => Ok(a),
-        Err(fault) => Err(fault),
-    }
+    let a = node_var(graph, Term::Text)?;
+    Ok(a)
 }
 
 /// A variable for any list and any table.
@@ -85,16 +75,10 @@ fn collection_var(graph: &mut Graph) -> Result<VarId, UnifyFault>
     ensures later { IsLater graph.old graph.new }
 {
     let _count = graph.count();
-    match fresh_var(graph) {
-        Ok(a) => match fresh_var(graph) {
-            Ok(element) => match graph.collection(a, element) {
-                Ok(()) => Ok(a),
-                Err(fault) => Err(fault),
-            },
-            Err(fault) => Err(fault),
-        },
-        Err(fault) => Err(fault),
-    }
+    let a = fresh_var(graph)?;
+    let element = fresh_var(graph)?;
+    graph.collection(a, element)?;
+    Ok(a)
 }
 
 /// A variable for lists of elements of this type.
@@ -108,13 +92,9 @@ fn list_var(alloc: Global, graph: &mut Graph, parts: &[VarId]) -> Result<VarId, 
     if parts.len() != 1 {
         return Err(UnifyFault::Clash);
     }
-    let Ok(term) = Term::list_of(alloc, parts[0]) else {
-        return Err(UnifyFault::Memory);
-    };
-    match node_var(graph, term) {
-        Ok(a) => Ok(a),
-        Err(fault) => Err(fault),
-    }
+    let term = Term::list_of(alloc, parts[0])?;
+    let a = node_var(graph, term)?;
+    Ok(a)
 }
 
 /// A variable for tables of keys and associates of these types.
@@ -128,13 +108,9 @@ fn table_var(alloc: Global, graph: &mut Graph, parts: &[VarId]) -> Result<VarId,
     if parts.len() != 2 {
         return Err(UnifyFault::Clash);
     }
-    let Ok(term) = Term::table_of(alloc, parts[0], parts[1]) else {
-        return Err(UnifyFault::Memory);
-    };
-    match node_var(graph, term) {
-        Ok(a) => Ok(a),
-        Err(fault) => Err(fault),
-    }
+    let term = Term::table_of(alloc, parts[0], parts[1])?;
+    let a = node_var(graph, term)?;
+    Ok(a)
 }
 
 /// A variable for compounds of fields of these types. No proper type is a compound of fewer than two.
@@ -148,13 +124,9 @@ fn compound_var(alloc: Global, graph: &mut Graph, parts: &[VarId]) -> Result<Var
     if parts.len() < 2 {
         return Err(UnifyFault::Clash);
     }
-    let Ok(term) = Term::compound_of(alloc, parts) else {
-        return Err(UnifyFault::Memory);
-    };
-    match node_var(graph, term) {
-        Ok(a) => Ok(a),
-        Err(fault) => Err(fault),
-    }
+    let term = Term::compound_of(alloc, parts)?;
+    let a = node_var(graph, term)?;
+    Ok(a)
 }
 
 /// A variable for types of this kind, with parts of these types. Clash comes only where there is none.

@@ -22,13 +22,9 @@ pub(crate) fn shape_var(
     ensures clash { result ≡ Err UnifyFault.Clash → NoShapeVar shape.now graph.old }
     ensures later { IsLater graph.old graph.new }
 {
-    match part_vars(alloc, graph, shape) {
-        Ok(parts) => match outer_var(alloc, graph, shape.kind(), &parts) {
-            Ok(a) => Ok(a),
-            Err(fault) => Err(fault),
-        },
-        Err(fault) => Err(fault),
-    }
+    let parts = part_vars(alloc, graph, shape)?;
+    let a = outer_var(alloc, graph, shape.kind(), &parts)?;
+    Ok(a)
 }
 
 /// Variables for the types of the parts of a shape.
@@ -40,14 +36,8 @@ fn part_vars(alloc: Global, graph: &mut Graph, shape: &Shape) -> Result<Vec<VarI
 {
     let mut vars = Vec::new(alloc);
     while let Some(part) = shape.part(vars.len()) {
-        match shape_var(alloc, graph, part) {
-            Ok(a) => {
-                let Ok(()) = vars.push(a) else {
-                    return Err(UnifyFault::Memory);
-                };
-            }
-            Err(fault) => return Err(fault),
-        }
+        let a = shape_var(alloc, graph, part)?;
+        vars.push(a)?;
     }
     Ok(vars)
 }

@@ -14,6 +14,7 @@ ghost use Rattle.abc_check.specs.inner.Halves.{Tells, IsCommandBetween};
 use crate::asked::{Asked, asked_units};
 use crate::asking::ask;
 use crate::fault::{CheckFault, at_line_one, no_types};
+use crate::lines::last_line;
 use crate::units::known_units;
 use crate::values::hold_values;
 use abc_demand::TargetVars;
@@ -56,13 +57,9 @@ impl UnitTypes {
         ensures clash { result ≡ Err UnifyFault.Clash → CutsAreSpelled (cuts_of members.now) → (values : Values) → IsTypable values (cuts_of members.now) → ⊥ }
         ensures made { IfOk result AreMade }
     {
-        match known_units(alloc, members) {
-            Ok(known) => match asked_units(alloc, members, &known) {
-                Ok(asked) => Ok(types_of(alloc, asked, known)),
-                Err(fault) => Err(fault),
-            },
-            Err(fault) => Err(fault),
-        }
+        let known = known_units(alloc, members)?;
+        let asked = asked_units(alloc, members, &known)?;
+        Ok(types_of(alloc, asked, known))
     }
 
     /// Whether the workspace is typable with these values of targets.
@@ -110,10 +107,7 @@ impl UnitTypes {
         ensures behind { (added : List (List ℕ × TheVar)) × (self.new.targets ≡ self.old.targets ++ added) }
     {
         match hold_values(self.alloc, &mut self.graph, &mut self.targets, targets) {
-            Ok(()) => match self.check_held(command) {
-                Ok(()) => Ok(()),
-                Err(fault) => Err(fault),
-            },
+            Ok(()) => self.check_held(command),
             Err(fault) => Err(at_line_one(fault)),
         }
     }
@@ -125,10 +119,10 @@ impl UnitTypes {
         ensures fault { (line : ℕ) → result ≡ Err (CheckFault.TypeFault line) → (values : Values) (w : List Cut) → KnowsTypes self.old values w → CallsAreSpelled w command.now → IsTypeLine (λ n. IsTypableWith values w command.now n) line × (IsTypableWith values w command.now LAST_LINE → ⊥) }
         ensures kept { self.new ≡ self.old }
     {
-        match self.takes(command, u32::MAX) {
-            Ok(true) => Ok(()),
-            Ok(false) => self.refuse(command),
-            Err(_) => Err(CheckFault::Memory),
+        if self.takes(command, u32::MAX)? {
+            Ok(())
+        } else {
+            self.refuse(command)
         }
     }
 
@@ -172,23 +166,21 @@ impl UnitTypes {
             return Ok(refused);
         }
         let middle = taken + (refused - taken) / 2;
-        match self.takes(command, middle) {
-            Ok(true) => self.line_between(command, middle, refused),
-            Ok(false) => self.line_between(command, taken, middle),
-            Err(fault) => Err(fault),
+        if self.takes(command, middle)? {
+            self.line_between(command, middle, refused)
+        } else {
+            self.line_between(command, taken, middle)
         }
     }
 
-    /// The fault of a command that is not accepted.
+    /// The fault of a command that is not accepted, by as many tests as halve its lines. One line needs none.
     fn refuse(&mut self, command: &Command) -> Result<(), CheckFault>
         requires { AreMade self.old }
         ensures fault { (line : ℕ) → result ≡ Err (CheckFault.TypeFault line) → (values : Values) (w : List Cut) → KnowsTypes self.old values w → CallsAreSpelled w command.now → (IsTypableWith values w command.now LAST_LINE → ⊥) → IsTypeLine (λ n. IsTypableWith values w command.now n) line }
         ensures refused { OnOk result ⊥ }
         ensures kept { self.new ≡ self.old }
     {
-        match self.line_between(command, 0, u32::MAX) {
-            Ok(line) => Err(CheckFault::TypeFault { line }),
-            Err(_) => Err(CheckFault::Memory),
-        }
+        let line = self.line_between(command, 0, last_line(command))?;
+        Err(CheckFault::TypeFault { line })
     }
 }

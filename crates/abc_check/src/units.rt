@@ -12,13 +12,13 @@ ghost use Rattle.abc_check.specs.Cuts.{entry_in, entries_in, CutsAreSpelled};
 ghost use Rattle.abc_check.specs.Standing.{KnowsUnits};
 ghost use Rattle.abc_check.specs.inner.Groupwise.{AreFound, ArePut, KnowsGroups};
 
+use crate::members::place_of;
 use abc_groups::{Calls, groups};
 use abc_num::{Items, OutOfMemory, Text};
 use abc_principal::{Member, Principal, Principals, group_principals};
 use abc_tree::{Template, calls};
 use abc_unify::UnifyFault;
 use std::alloc::Global;
-use std::cmp::Ordering;
 
 /// What one unit calls on the lines that count.
 fn entry(alloc: Global, member: &Member<'_>) -> Result<Calls, OutOfMemory>
@@ -43,30 +43,29 @@ fn entries(alloc: Global, members: &[Member<'_>]) -> Result<Vec<Calls>, OutOfMem
 
 /// The unit with this template, if there is one.
 fn found<'a>(members: &[Member<'a>], t: &Template) -> Option<Member<'a>>
+    requires { RiseBy template_of (cuts_of members.now) }
     ensures { option_map cut_in result ≡ cut_of t.now (cuts_of members.now) }
 {
-    for member in members {
-        match member.unit.template.cmp(t) {
-            Ordering::Less => {}
-            Ordering::Equal => {
-                return Some(Member {
-                    unit: member.unit,
-                    lines: member.lines,
-                });
-            }
-            Ordering::Greater => return None,
+    match place_of(members, t) {
+        Ok(at) => {
+            let member = &members[at];
+            Some(Member {
+                unit: member.unit,
+                lines: member.lines,
+            })
         }
+        Err(_) => None,
     }
-    None
 }
 
-/// The units with these templates.
+/// The units with these templates, each found by halves.
 fn group_members<'a>(
     alloc: Global,
     members: &[Member<'a>],
     templates: &[Template],
 ) -> Result<Vec<Member<'a>>, OutOfMemory>
-    requires { AllByRecursion (λ t. IsSome (cut_of t (cuts_of members.now))) templates.now }
+    requires rising { RiseBy template_of (cuts_of members.now) }
+    requires there { AllByRecursion (λ t. IsSome (cut_of t (cuts_of members.now))) templates.now }
     ensures { IfOk result (λ group. AreFound (cuts_of members.now) templates.now (cuts_of group.items)) }
 {
     let mut group = Vec::new(alloc);
@@ -109,16 +108,10 @@ fn know_group(
     ensures ok { OnOk result (CutsAreSpelled (cuts_of members.now) → (groups : List (List (List ℕ))) (k : ℕ) → AreGroups (program_of (entries_in (cuts_of members.now))) groups → k < length groups → group_at groups k ≡ texts templates.now → KnowsGroups (cuts_of members.now) groups k known.old → KnowsGroups (cuts_of members.now) groups (k + 1) known.new) }
     ensures clash { result ≡ Err UnifyFault.Clash → CutsAreSpelled (cuts_of members.now) → (groups : List (List (List ℕ))) (k : ℕ) → AreGroups (program_of (entries_in (cuts_of members.now))) groups → k < length groups → group_at groups k ≡ texts templates.now → KnowsGroups (cuts_of members.now) groups k known.old → (values : Values) → IsTypable values (cuts_of members.now) → ⊥ }
 {
-    let Ok(group) = group_members(alloc, members, templates) else {
-        return Err(UnifyFault::Memory);
-    };
-    match group_principals(alloc, &group, known) {
-        Ok(principals) => match put_all(alloc, known, principals) {
-            Ok(()) => Ok(()),
-            Err(_) => Err(UnifyFault::Memory),
-        },
-        Err(fault) => Err(fault),
-    }
+    let group = group_members(alloc, members, templates)?;
+    let principals = group_principals(alloc, &group, known)?;
+    put_all(alloc, known, principals)?;
+    Ok(())
 }
 
 /// The principals of all units, which are in the order of their templates. Clash comes only where nothing is typable with
@@ -128,18 +121,11 @@ pub fn known_units(alloc: Global, members: &[Member<'_>]) -> Result<Principals, 
     ensures ok { IfOk result (λ known. CutsAreSpelled (cuts_of members.now) → KnowsUnits known (cuts_of members.now)) }
     ensures clash { result ≡ Err UnifyFault.Clash → CutsAreSpelled (cuts_of members.now) → (values : Values) → IsTypable values (cuts_of members.now) → ⊥ }
 {
-    let Ok(graph) = entries(alloc, members) else {
-        return Err(UnifyFault::Memory);
-    };
-    let Ok(all) = groups(alloc, &graph) else {
-        return Err(UnifyFault::Memory);
-    };
+    let graph = entries(alloc, members)?;
+    let all = groups(alloc, &graph)?;
     let mut known = Principals::new(alloc);
     for group in &all {
-        match know_group(alloc, members, group.as_slice(), &mut known) {
-            Ok(()) => {}
-            Err(fault) => return Err(fault),
-        }
+        know_group(alloc, members, group.as_slice(), &mut known)?;
     }
     Ok(known)
 }

@@ -1,5 +1,5 @@
 //! What the values of targets ask of the types of targets. A value is asked for by its shape, which lists and tables keep: so the
-//! cost is the size of the types of all targets, and no value is gone through.
+//! cost is the names of all targets and the size of their types, and no value is gone through.
 ghost use Rattle.std.specs.Prelude.{◌≡◌, ◌∷◌, ◌++◌, [], ℕ, List, Some, Err, OnOk};
 ghost use Rattle.abc_num.specs.declared.types.Ground.{Ground};
 ghost use Rattle.abc_terms.specs.declared.term.VarId.{VarId as TheVar};
@@ -36,16 +36,10 @@ fn hold_shape(
     ensures behind { (added : List (List ℕ × TheVar)) × (vars.new ≡ vars.old ++ added) }
 {
     let _count = graph.count();
-    let Ok(target) = target_var(alloc, graph, vars, name) else {
-        return Err(UnifyFault::Memory);
-    };
-    match shape_var(alloc, graph, shape) {
-        Ok(a) => match graph.equal(target, a) {
-            Ok(()) => Ok(()),
-            Err(fault) => Err(fault),
-        },
-        Err(fault) => Err(fault),
-    }
+    let target = target_var(alloc, graph, vars, name)?;
+    let a = shape_var(alloc, graph, shape)?;
+    graph.equal(target, a)?;
+    Ok(())
 }
 
 /// Asks that one target more has a type of its value.
@@ -63,13 +57,12 @@ fn hold_value(
     ensures later { IsLater graph.old graph.new }
     ensures behind { (added : List (List ℕ × TheVar)) × (vars.new ≡ vars.old ++ added) }
 {
-    match Shape::of(alloc, value) {
-        Ok(Some(shape)) => match hold_shape(alloc, graph, vars, name, &shape) {
-            Ok(()) => Ok(()),
-            Err(fault) => Err(fault),
-        },
-        Ok(None) => Err(UnifyFault::Clash),
-        Err(_) => Err(UnifyFault::Memory),
+    match Shape::of(alloc, value)? {
+        Some(shape) => {
+            hold_shape(alloc, graph, vars, name, &shape)?;
+            Ok(())
+        }
+        None => Err(UnifyFault::Clash),
     }
 }
 
@@ -89,10 +82,10 @@ fn hold_named(
     ensures behind { (added : List (List ℕ × TheVar)) × (vars.new ≡ vars.old ++ added) }
 {
     match targets.look(name) {
-        Some(value) => match hold_value(alloc, graph, vars, name, value) {
-            Ok(()) => Ok(()),
-            Err(fault) => Err(fault),
-        },
+        Some(value) => {
+            hold_value(alloc, graph, vars, name, value)?;
+            Ok(())
+        }
         None => Ok(()),
     }
 }
@@ -113,17 +106,12 @@ pub(crate) fn hold_values(
     ensures behind { (added : List (List ℕ × TheVar)) × (vars.new ≡ vars.old ++ added) }
 {
     let _rising = targets.len();
-    let Ok(names) = targets.names() else {
-        return Err(UnifyFault::Memory);
-    };
+    let names = targets.names()?;
     for number in 0..u32::MAX {
         let Some(name) = names.get(number) else {
             return Ok(());
         };
-        match hold_named(alloc, graph, vars, targets, name) {
-            Ok(()) => {}
-            Err(fault) => return Err(fault),
-        }
+        hold_named(alloc, graph, vars, targets, name)?;
     }
     // So many names are never told of.
     Err(UnifyFault::Memory)

@@ -11,7 +11,7 @@ mod Turning
 mod Walking
 mod Noded
 mod Calling
-mod Suites
+pub mod Suites
 mod BodyLemmas
 mod Later
 mod NameLemmas

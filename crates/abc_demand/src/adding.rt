@@ -35,13 +35,9 @@ fn add_all(g: &mut Graph, made: u32, demands: Vec<Demand>) -> Result<(), UnifyFa
     ensures clash { result ≡ Err UnifyFault.Clash → IsUnsolvable (g.old.demands ++ demands.items) }
     ensures later { IsLater g.old g.new }
 {
-    let Ok(()) = make(g, made) else {
-        return Err(UnifyFault::Memory);
-    };
-    match g.demand_all(demands) {
-        Ok(()) => Ok(()),
-        Err(fault) => Err(fault),
-    }
+    make(g, made)?;
+    g.demand_all(demands)?;
+    Ok(())
 }
 
 /// Makes so many variables.

@@ -98,14 +98,10 @@ fn add_unit(
     ensures behind { (added : List (List ℕ × TheVar)) × (env.new.targets ≡ env.old.targets ++ added) }
 {
     let mut draft = Draft::new(alloc, g.count());
-    let Ok(()) = draft.add_unit(env, unit, upto) else {
-        return Err(UnifyFault::Memory);
-    };
+    draft.add_unit(env, unit, upto)?;
     let collected = draft.finish();
-    match add(g, collected.made, collected.demands) {
-        Ok(()) => Ok(()),
-        Err(fault) => Err(fault),
-    }
+    add(g, collected.made, collected.demands)?;
+    Ok(())
 }
 
 fn add_command(
@@ -127,14 +123,10 @@ fn add_command(
     ensures behind { (added : List (List ℕ × TheVar)) × (env.new.targets ≡ env.old.targets ++ added) }
 {
     let mut draft = Draft::new(alloc, g.count());
-    let Ok(()) = draft.add_command(env, command, upto) else {
-        return Err(UnifyFault::Memory);
-    };
+    draft.add_command(env, command, upto)?;
     let collected = draft.finish();
-    match add(g, collected.made, collected.demands) {
-        Ok(()) => Ok(()),
-        Err(fault) => Err(fault),
-    }
+    add(g, collected.made, collected.demands)?;
+    Ok(())
 }
 
 impl Draft {

@@ -1,13 +1,6 @@
--- Faults that are handed on under another type, and what follows from clauses on Ok.
-use Rattle.std.proofs.Common.{◌≡◌}
+-- What follows from clauses on Ok.
 use Rattle.std.specs.Prelude.{Ok, Err, IfOk, OnOk}
 use Rattle.std.specs.declared.result.Result.{Result}
-use Rattle.abc_unify.specs.declared.graph.UnifyFault.{UnifyFault}
-use Rattle.abc_unify.specs.declared.graph.UnifyFault.TheVariants as fault
-
--- a fault is the same whatever the result would have been
-pub same_fault : {X : Type 0} (f : UnifyFault) → ◌≡◌ {A = Result X UnifyFault} (Err f) (Err fault.Clash) → f ≡ fault.Clash
-same_fault f e = cc
 
 pub if_ok_more : {X E : Type 0} (P Q : X → Type 0) (r : Result X E) → ((x : X) → P x → Q x) → IfOk r P → IfOk r Q
 if_ok_more P Q (Ok x) f h = f x h

@@ -57,14 +57,12 @@ fn known_signature(
     ensures behind { (added : List (List ℕ × TheVar)) × (targets.new ≡ targets.old ++ added) }
     ensures later { IsLater g.old g.new }
 {
-    let Ok(bytes) = t.text(alloc) else {
-        return Err(UnifyFault::Memory);
-    };
-    match known.find(&Text::from_vec(bytes)) {
-        Some(principal) => match principal.instance(alloc, g, targets) {
-            Ok(signature) => Ok(Some(signature)),
-            Err(fault) => Err(fault),
-        },
+    let text = Text::from_vec(t.text(alloc)?);
+    match known.find(&text) {
+        Some(principal) => {
+            let signature = principal.instance(alloc, g, targets)?;
+            Ok(Some(signature))
+        }
         None => Ok(None),
     }
 }
@@ -88,10 +86,10 @@ fn call_signature(
     ensures later { IsLater g.old g.new }
 {
     match own_signature(members, owns, t) {
-        Some(own) => match copy_of(alloc, own) {
-            Ok(copy) => Ok(Some(copy)),
-            Err(_) => Err(UnifyFault::Memory),
-        },
+        Some(own) => {
+            let copy = copy_of(alloc, own)?;
+            Ok(Some(copy))
+        }
         None => known_signature(alloc, g, targets, known, t),
     }
 }
@@ -118,14 +116,8 @@ pub fn call_signatures(
 {
     let mut calls = Vec::new(alloc);
     for i in 0..templates.len() {
-        match call_signature(alloc, g, targets, members, owns, known, &templates[i]) {
-            Ok(call) => {
-                let Ok(()) = calls.push(call) else {
-                    return Err(UnifyFault::Memory);
-                };
-            }
-            Err(fault) => return Err(fault),
-        }
+        let call = call_signature(alloc, g, targets, members, owns, known, &templates[i])?;
+        calls.push(call)?;
     }
     Ok(calls)
 }

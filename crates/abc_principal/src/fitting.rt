@@ -64,16 +64,10 @@ fn fit_member(
     ensures clash { result ≡ Err UnifyFault.Clash → NoneFits (cuts_of members.now) known.now owns.now g.old targets.old (take_one i (cuts_of members.now)) (take_one i owns.now) }
 {
     let member = &members[i];
-    let Ok(nodes) = unit_nodes(alloc, member.unit, member.lines) else {
-        return Err(UnifyFault::Memory);
-    };
-    let Ok(own) = copy_of(alloc, &owns[i]) else {
-        return Err(UnifyFault::Memory);
-    };
-    match call_signatures(alloc, g, targets, members, owns, known, &nodes) {
-        Ok(calls) => ask(alloc, g, targets, member, own, Items::from_vec(calls)),
-        Err(fault) => Err(fault),
-    }
+    let nodes = unit_nodes(alloc, member.unit, member.lines)?;
+    let own = copy_of(alloc, &owns[i])?;
+    let calls = call_signatures(alloc, g, targets, members, owns, known, &nodes)?;
+    ask(alloc, g, targets, member, own, Items::from_vec(calls))
 }
 
 /// Asks that all members fit.
@@ -92,10 +86,7 @@ pub fn fit_members(
     ensures clash { result ≡ Err UnifyFault.Clash → NoneFits (cuts_of members.now) known.now owns.now g.old targets.old (cuts_of members.now) owns.now }
 {
     for i in 0..members.len() {
-        match fit_member(alloc, g, targets, members, owns, known, i) {
-            Ok(()) => {}
-            Err(fault) => return Err(fault),
-        }
+        fit_member(alloc, g, targets, members, owns, known, i)?;
     }
     Ok(())
 }

@@ -27,18 +27,10 @@ pub fn group_principals(
     ensures whole { IfOk result (λ ps. All IsWhole ps.items) }
 {
     let mut g = Graph::new(alloc);
-    let Ok(owns) = new_signatures(alloc, &mut g, members) else {
-        return Err(UnifyFault::Memory);
-    };
+    let owns = new_signatures(alloc, &mut g, members)?;
     let mut targets = TargetVars::new(alloc);
-    match fit_members(alloc, &mut g, &mut targets, members, &owns, known) {
-        Ok(()) => {
-            let _count = g.count();
-            match principals(alloc, &g, &targets, members, &owns) {
-                Ok(all) => Ok(all),
-                Err(_) => Err(UnifyFault::Memory),
-            }
-        }
-        Err(fault) => Err(fault),
-    }
+    fit_members(alloc, &mut g, &mut targets, members, &owns, known)?;
+    let _count = g.count();
+    let all = principals(alloc, &g, &targets, members, &owns)?;
+    Ok(all)
 }

@@ -43,11 +43,7 @@ pub fn place(
     ensures later { IsLater g.old g.new }
 {
     let _count = g.count();
-    let Ok(given) = target_vars(alloc, g, targets, principal.targets.as_slice()) else {
-        return Err(UnifyFault::Memory);
-    };
-    match principal.scheme.copy(alloc, g, &given) {
-        Ok(own) => Ok(signature_of(own, principal.formals, principal.gives)),
-        Err(fault) => Err(fault),
-    }
+    let given = target_vars(alloc, g, targets, principal.targets.as_slice())?;
+    let own = principal.scheme.copy(alloc, g, &given)?;
+    Ok(signature_of(own, principal.formals, principal.gives))
 }

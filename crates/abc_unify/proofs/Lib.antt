@@ -16,6 +16,7 @@ pub mod Opening
 pub mod Downward
 pub mod Gathering
 pub mod Constraints
+pub mod Faults
 pub mod Stamping
 pub mod Named
 pub mod Noting

@@ -15,6 +15,15 @@ use crate::marks::Marks;
 use abc_terms::VarId;
 use std::alloc::{AllocError, Global};
 
+/// The mark of a class that is still to be visited.
+const NEW: usize = 0;
+
+/// The mark of a class from which the search is still under way.
+const OPEN: usize = 1;
+
+/// The mark of the class that is done first. Each that is done later has a greater one.
+const FIRST_DONE: usize = 2;
+
 /// A search from one class found a cycle through this one, or the next number to give.
 #[derive(Clone, Copy)]
 pub enum Walk {
@@ -31,7 +40,7 @@ fn not_done(slots: &[Slot], marks: &Marks, x: VarId) -> Option<usize>
     ensures none { IfNone result (2 ≤ slice_index marks.now (root_of slots.now x.0)) }
 {
     let root = find(slots, x).index();
-    if marks.get(root) < 2 {
+    if marks.get(root) < FIRST_DONE {
         Some(root)
     } else {
         None
@@ -108,7 +117,7 @@ fn visit(
     let mut next = first;
     let mut stack = Vec::new(alloc);
     stack.push(start)?;
-    marks.set(start, 1);
+    marks.set(start, OPEN);
     while let Some(top) = stack.pop() {
         let kind = kind_of(slots, top);
         match next_below(slots, marks, kind) {
@@ -117,12 +126,12 @@ fn visit(
                 next += 1;
             }
             Some(child) => {
-                if marks.get(child) == 1 {
+                if marks.get(child) == OPEN {
                     return Ok(Walk::Cycle(top));
                 }
                 stack.push(top)?;
                 stack.push(child)?;
-                marks.set(child, 1);
+                marks.set(child, OPEN);
             }
         }
     }
@@ -149,7 +158,7 @@ fn visit_from(
     if !named[start] {
         return Ok(Walk::Done(first));
     }
-    if marks.get(start) != 0 {
+    if marks.get(start) != NEW {
         return Ok(Walk::Done(first));
     }
     let walk = visit(alloc, slots, marks, first, start)?;
@@ -172,7 +181,7 @@ fn visit_all(
     ensures cycle { IfOk result (λ cycle. IfSome cycle (λ top. IsOnCycle slots.now top)) }
     ensures none { IfOk result (λ cycle. IfNone cycle (IsSearched slots.now named.now written.now)) }
 {
-    let mut next = 2;
+    let mut next = FIRST_DONE;
     for i in 0..written.len() {
         let start = find(slots, written[i].at).index();
         match visit_from(alloc, slots, named, marks, next, start)? {

@@ -12,7 +12,7 @@ use crate::kind::{Constraint, Kind};
 use crate::state::State;
 use abc_num::OutOfMemory;
 use abc_terms::{Demand, Term, VarId};
-use std::alloc::Global;
+use std::alloc::{AllocError, AllocFailed, Global};
 use std::marker::Model;
 use thiserror::Error;
 
@@ -61,6 +61,39 @@ pub enum UnifyFault {
     Clash,
     #[error("out of memory")]
     Memory,
+}
+
+impl From<AllocError> for UnifyFault {
+    ghost use Rattle.std.specs.Prelude.{◌≡◌};
+    ghost use Rattle.abc_unify.specs.declared.graph.UnifyFault.TheVariants.{Memory};
+
+    ghost from_gives = { λ _ fault. fault ≡ Memory };
+
+    fn from(_refused: AllocError) -> UnifyFault {
+        UnifyFault::Memory
+    }
+}
+
+impl<T: Drop> From<AllocFailed<T>> for UnifyFault {
+    ghost use Rattle.std.specs.Prelude.{◌≡◌};
+    ghost use Rattle.abc_unify.specs.declared.graph.UnifyFault.TheVariants.{Memory};
+
+    ghost from_gives = { λ _ fault. fault ≡ Memory };
+
+    fn from(_refused: AllocFailed<T>) -> UnifyFault {
+        UnifyFault::Memory
+    }
+}
+
+impl From<OutOfMemory> for UnifyFault {
+    ghost use Rattle.std.specs.Prelude.{◌≡◌};
+    ghost use Rattle.abc_unify.specs.declared.graph.UnifyFault.TheVariants.{Memory};
+
+    ghost from_gives = { λ _ fault. fault ≡ Memory };
+
+    fn from(_refused: OutOfMemory) -> UnifyFault {
+        UnifyFault::Memory
+    }
 }
 
 impl Graph {

@@ -138,12 +138,8 @@ impl State {
         ensures err { OnErr result (seen self.new ≡ seen self.old) }
     {
         let point = self.point();
-        if self.demands.reserve(1).is_err() {
-            return Err(UnifyFault::Memory);
-        }
-        if self.history.reserve(1).is_err() {
-            return Err(UnifyFault::Memory);
-        }
+        self.demands.reserve(1)?;
+        self.history.reserve(1)?;
         match take_in(
             alloc,
             self.slots.as_mut_slice(),
@@ -151,15 +147,14 @@ impl State {
             constraint,
             self.named.as_mut_slice(),
             &mut self.marks,
-        ) {
-            Ok(Solving::Solved) => {
+        )? {
+            Solving::Solved => {
                 // There is room, so these take no memory and do not fail.
                 let _ = self.demands.push(demand);
                 let _ = self.history.push(point);
                 Ok(())
             }
-            Ok(Solving::Clash) => Err(UnifyFault::Clash),
-            Err(_) => Err(UnifyFault::Memory),
+            Solving::Clash => Err(UnifyFault::Clash),
         }
     }
 
@@ -172,17 +167,11 @@ impl State {
         ensures clash { result ≡ Err UnifyFault.Clash → IsUnsolvable (self.old.demands.items ++ demands.items) }
         ensures err { OnErr result (seen self.new ≡ seen self.old) }
     {
-        let Ok(mut work) = constraints_of_all(alloc, demands.as_slice()) else {
-            return Err(UnifyFault::Memory);
-        };
+        let mut work = constraints_of_all(alloc, demands.as_slice())?;
         let before = self.point();
         let mut more = demands;
-        if self.history.reserve(1).is_err() {
-            return Err(UnifyFault::Memory);
-        }
-        if self.demands.append(&mut more).is_err() {
-            return Err(UnifyFault::Memory);
-        }
+        self.history.reserve(1)?;
+        self.demands.append(&mut more)?;
         match take_all(
             alloc,
             self.slots.as_mut_slice(),

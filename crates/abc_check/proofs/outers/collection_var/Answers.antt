@@ -1,16 +1,14 @@
 use Rattle.std.proofs.Common.{◌∙◌, ap}
-use Rattle.std.specs.Prelude.{Err}
-use Rattle.abc_unify.specs.declared.graph.UnifyFault.{UnifyFault}
-use Rattle.abc_check.proofs.Demanding.{same_fault}
 use Rattle.abc_check.proofs.KindVars.{collection_made, no_collection}
+use Rattle.abc_unify.proofs.Faults.{clash_told}
 use Rattle.abc_check.proofs.outers.collection_var.Goals as goal
 
-pub returns-in-Ok-collection-clause-made : goal.returns-in-Ok-collection-clause-made
-returns-in-Ok-collection-clause-made c =
-    collection_made c.args.graph.now c.fresh_var.new.graph c.fresh_var-in-Ok.new.graph c.in-Ok.a c.in-Ok-fresh_var.element c.count-count.ensures.made c.in-Ok.ensures.number c.in-Ok.ensures.ok c.in-Ok-fresh_var.ensures.number c.in-Ok-fresh_var.ensures.ok
-    c.collection.new.self c.in-Ok-collection.ensures.ok
+pub returns-clause-made : goal.returns-clause-made
+returns-clause-made c =
+    collection_made c.args.graph.now c.fresh_var.new.graph c.fresh_var-2.new.graph c.in_ok-a.a c.in_ok-element.element c.count-count.ensures.made c.in_ok-a.ensures.number c.in_ok-a.ensures.ok c.in_ok-element.ensures.number c.in_ok-element.ensures.ok
+    c.collection.new.self c.in_ok-collection.ensures.ok
 
-pub returns-in-Err-collection-clause-clash : goal.returns-in-Err-collection-clause-clash
-returns-in-Err-collection-clause-clash c = λ e.
-    no_collection c.args.graph.now c.fresh_var.new.graph c.fresh_var-in-Ok.new.graph c.in-Ok.a c.in-Ok-fresh_var.element c.count-count.ensures.made c.in-Ok.ensures.number c.in-Ok.ensures.ok c.in-Ok-fresh_var.ensures.number c.in-Ok-fresh_var.ensures.ok
-    (c.collection.ensures.clash (c.in-Err-collection.is ∙ ap (λ (f : UnifyFault). Err f) (same_fault c.in-Err-collection.fault e)))
+pub returns-in_err-collection-clause-clash : goal.returns-in_err-collection-clause-clash
+returns-in_err-collection-clause-clash c = λ e.
+    no_collection c.args.graph.now c.fresh_var.new.graph c.fresh_var-2.new.graph c.in_ok-a.a c.in_ok-element.element c.count-count.ensures.made c.in_ok-a.ensures.number c.in_ok-a.ensures.ok c.in_ok-element.ensures.number c.in_ok-element.ensures.ok
+    (c.collection.ensures.clash (clash_told c.collection.result c.from_residual-in_err-collection.result c.in_err-collection.field-0.0 c.in_err-collection.was c.from_residual-in_err-collection.ensures e))

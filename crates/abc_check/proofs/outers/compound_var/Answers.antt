@@ -4,6 +4,6 @@ use Rattle.abc_check.proofs.outers.compound_var.Goals as goal
 pub returns-then-parts-lt2-clause-clash : goal.returns-then-parts-lt2-clause-clash
 returns-then-parts-lt2-clause-clash c = λ e. no_compound c.args.parts.now c.args.graph.now c.if-parts-lt2.true
 
-pub returns-in-Ok-node_var-clause-made : goal.returns-in-Ok-node_var-clause-made
-returns-in-Ok-node_var-clause-made c =
-    compound_made c.args.graph.now c.node_var.new.graph c.in-Ok-node_var.a c.count-count.ensures.made c.in-Ok-node_var.ensures.number c.args.parts.now c.in-Ok.term (c.in-Ok.ensures.node c.args.graph.now.count c.requires) c.in-Ok-node_var.ensures.ok c.in-Ok.ensures.term
+pub returns-clause-made : goal.returns-clause-made
+returns-clause-made c =
+    compound_made c.args.graph.now c.node_var.new.graph c.in_ok-a.a c.count-count.ensures.made c.in_ok-a.ensures.number c.args.parts.now c.in_ok-term.term (c.in_ok-term.ensures.node c.args.graph.now.count c.requires) c.in_ok-a.ensures.ok c.in_ok-term.ensures.term

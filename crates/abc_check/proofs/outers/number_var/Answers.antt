@@ -1,5 +1,5 @@
 use Rattle.abc_check.proofs.KindVars.{number_made}
 use Rattle.abc_check.proofs.outers.number_var.Goals as goal
 
-pub returns-in-Ok-clause-made : goal.returns-in-Ok-clause-made
-returns-in-Ok-clause-made c = number_made c.args.graph.now c.node_var.new.graph c.in-Ok.a c.count-count.ensures.made c.in-Ok.ensures.number c.in-Ok.ensures.ok
+pub returns-clause-made : goal.returns-clause-made
+returns-clause-made c = number_made c.args.graph.now c.node_var.new.graph c.in_ok-a.a c.count-count.ensures.made c.in_ok-a.ensures.number c.in_ok-a.ensures.ok

@@ -4,14 +4,14 @@ use Rattle.abc_terms.specs.declared.term.VarId.{VarId}
 use Rattle.abc_check.proofs.KindVars.{table_made}
 use Rattle.abc_check.proofs.outers.table_var.Goals as goal
 
-pub returns-in-Ok-node_var-clause-made : goal.returns-in-Ok-node_var-clause-made
-returns-in-Ok-node_var-clause-made c =
+pub returns-clause-made : goal.returns-clause-made
+returns-clause-made c =
     let parts = c.args.parts.now in
     let n = c.args.graph.now.count in
     let two = c.if-parts-ne2.false in
     let none : VarId = record { 0 = 0 } in
     let k : VarId = get_or parts 0 none in
     let e : VarId = get_or parts 1 none in
-    table_made c.args.graph.now c.node_var.new.graph c.in-Ok-node_var.a c.count-count.ensures.made c.in-Ok-node_var.ensures.number parts c.in-Ok.term
-    (c.in-Ok.ensures.node n (c.requires 0 none (omega (arith, two))) (c.requires 1 none (omega (arith, two)))) c.in-Ok-node_var.ensures.ok
-    k e two (get_or_default parts 0 none k (omega (arith, two))) (get_or_default parts 1 none e (omega (arith, two))) c.in-Ok.ensures.term
+    table_made c.args.graph.now c.node_var.new.graph c.in_ok-a.a c.count-count.ensures.made c.in_ok-a.ensures.number parts c.in_ok-term.term
+    (c.in_ok-term.ensures.node n (c.requires 0 none (omega (arith, two))) (c.requires 1 none (omega (arith, two)))) c.in_ok-a.ensures.ok
+    k e two (get_or_default parts 0 none k (omega (arith, two))) (get_or_default parts 1 none e (omega (arith, two))) c.in_ok-term.ensures.term

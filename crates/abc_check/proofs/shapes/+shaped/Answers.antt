@@ -3,30 +3,29 @@ use Rattle.std.specs.Prelude.{Err, Some, None, slice_get}
 use Rattle.std.proofs.lemmas.List.{length-append}
 use Rattle.std.proofs.lemmas.Option.{slice_get_within}
 use Rattle.abc_terms.specs.declared.term.VarId.{VarId}
-use Rattle.abc_unify.specs.declared.graph.UnifyFault.{UnifyFault}
 use Rattle.abc_value.specs.Forms.{Form}
 use Rattle.abc_value.specs.FormCode.{depth_of}
 use Rattle.abc_value.specs.ShapeParts.{shape_parts}
 use Rattle.abc_value.proofs.forms.ShapeLooks.{part_falls}
 use Rattle.abc_scheme.proofs.Later.{later_same, later_then}
 use Rattle.abc_check.specs.inner.Shaped.{AreShapeVars}
-use Rattle.abc_check.proofs.Demanding.{same_fault}
 use Rattle.abc_check.proofs.PartVars.{slice_made, outer_whole, never_outer, never_parts, no_parts, part_added, never_part, parts_ended}
+use Rattle.abc_unify.proofs.Faults.{clash_told}
 use Rattle.abc_check.proofs.shapes.+shaped.Goals as goal
 
 pub shape_var-outer_var-requires : goal.shape_var-outer_var-requires
-shape_var-outer_var-requires t c = slice_made c.args.shape.now c.kind.result c.args.graph.now c.part_vars.new.graph c.in-Ok.parts.items c.deref.result.now c.kind.ensures c.deref.ensures.value c.in-Ok.ensures.made
+shape_var-outer_var-requires t c = slice_made c.args.shape.now c.kind.result c.args.graph.now c.part_vars.new.graph c.in_ok-parts.parts.items c.deref.result.now c.kind.ensures c.deref.ensures.value c.in_ok-parts.ensures.made
 
-pub shape_var-returns-in-Ok-outer_var-clause-made : goal.shape_var-returns-in-Ok-outer_var-clause-made
-shape_var-returns-in-Ok-outer_var-clause-made t c =
-    outer_whole c.args.shape.now c.kind.result c.args.graph.now c.part_vars.new.graph c.in-Ok.parts.items c.deref.result.now c.kind.ensures c.deref.ensures.value c.in-Ok.ensures.made c.outer_var.new.graph c.in-Ok-outer_var.a c.in-Ok-outer_var.ensures.made
+pub shape_var-returns-clause-made : goal.shape_var-returns-clause-made
+shape_var-returns-clause-made t c =
+    outer_whole c.args.shape.now c.kind.result c.args.graph.now c.part_vars.new.graph c.in_ok-parts.parts.items c.deref.result.now c.kind.ensures c.deref.ensures.value c.in_ok-parts.ensures.made c.outer_var.new.graph c.in_ok-a.a c.in_ok-a.ensures.made
 
-pub shape_var-returns-in-Ok-clause-clash : goal.shape_var-returns-in-Ok-clause-clash
-shape_var-returns-in-Ok-clause-clash t c = λ e.
-    never_outer c.args.shape.now c.kind.result c.args.graph.now c.part_vars.new.graph c.in-Ok.parts.items c.deref.result.now c.kind.ensures c.deref.ensures.value c.in-Ok.ensures.made (c.outer_var.ensures.clash (c.in-Err-outer_var.is ∙ e))
+pub shape_var-returns-in_err-a-clause-clash : goal.shape_var-returns-in_err-a-clause-clash
+shape_var-returns-in_err-a-clause-clash t c = λ e.
+    never_outer c.args.shape.now c.kind.result c.args.graph.now c.part_vars.new.graph c.in_ok-parts.parts.items c.deref.result.now c.kind.ensures c.deref.ensures.value c.in_ok-parts.ensures.made (c.outer_var.ensures.clash (clash_told c.outer_var.result c.from_residual-in_err-a.result c.in_err-a.field-0.0 c.in_err-a.was c.from_residual-in_err-a.ensures e))
 
-pub shape_var-returns-clause-clash : goal.shape_var-returns-clause-clash
-shape_var-returns-clause-clash t c = λ e. never_parts c.args.shape.now c.args.graph.now (c.part_vars.ensures.clash (c.in-Err.is ∙ ap (λ (f : UnifyFault). Err f) (same_fault c.in-Err.fault e)))
+pub shape_var-returns-in_err-parts-clause-clash : goal.shape_var-returns-in_err-parts-clause-clash
+shape_var-returns-in_err-parts-clause-clash t c = λ e. never_parts c.args.shape.now c.args.graph.now (c.part_vars.ensures.clash (clash_told c.part_vars.result c.from_residual.result c.in_err-parts.field-0.0 c.in_err-parts.was c.from_residual.ensures e))
 
 pub part_vars-loop-part-init : goal.part_vars-loop-part-init
 part_vars-loop-part-init t c = record {
@@ -47,7 +46,7 @@ part_vars-shape_var-requires t c =
 pub part_vars-loop-part-smaller : goal.part_vars-loop-part-smaller
 part_vars-loop-part-smaller t c =
     let within : c.len.result < length (shape_parts c.args.shape.now) = slice_get_within (shape_parts c.args.shape.now) c.len.result c.in-Some.part.now (sym c.in-Some.ensures) in
-    let many : length c.push.new.self.items ≡ length c.loop-part.vars.items + 1 = ap length c.in-Ok-push.ensures.items ∙ length-append c.loop-part.vars.items (c.in-Ok.a ∷ []) in
+    let many : length c.push.new.self.items ≡ length c.loop-part.vars.items + 1 = ap length c.in_ok-push.ensures.items ∙ length-append c.loop-part.vars.items (c.in_ok-a.a ∷ []) in
     omega (arith, within, many, c.len.ensures)
 
 pub part_vars-loop-part-preserved : goal.part_vars-loop-part-preserved
@@ -55,16 +54,16 @@ part_vars-loop-part-preserved t c =
     let same : c.len.result ≡ length c.loop-part.vars.items = omega (arith, c.len.ensures) in
     record {
       later = later_then c.args.graph.now c.loop-part.graph c.shape_var.new.graph c.loop-part.invariant.later c.shape_var.ensures.later;
-      made = part_added (shape_parts c.args.shape.now) c.in-Some.part.now c.args.graph.now c.loop-part.graph c.shape_var.new.graph c.loop-part.vars.items c.push.new.self.items c.in-Ok.a
-          (next_at (shape_parts c.args.shape.now) (length c.loop-part.vars.items) c.len.result c.in-Some.part.now same c.in-Some.ensures) c.loop-part.invariant.made c.in-Ok.ensures.made c.in-Ok-push.ensures.items;
+      made = part_added (shape_parts c.args.shape.now) c.in-Some.part.now c.args.graph.now c.loop-part.graph c.shape_var.new.graph c.loop-part.vars.items c.push.new.self.items c.in_ok-a.a
+          (next_at (shape_parts c.args.shape.now) (length c.loop-part.vars.items) c.len.result c.in-Some.part.now same c.in-Some.ensures) c.loop-part.invariant.made c.in_ok-a.ensures.made c.in_ok-push.ensures.items;
     }
 
-pub part_vars-returns-in-Err-clause-clash : goal.part_vars-returns-in-Err-clause-clash
-part_vars-returns-in-Err-clause-clash t c = λ e.
+pub part_vars-returns-in_err-a-clause-clash : goal.part_vars-returns-in_err-a-clause-clash
+part_vars-returns-in_err-a-clause-clash t c = λ e.
     let same : c.len.result ≡ length c.loop-part.vars.items = omega (arith, c.len.ensures) in
     never_part (shape_parts c.args.shape.now) c.in-Some.part.now c.args.graph.now c.loop-part.graph c.loop-part.vars.items
     (next_at (shape_parts c.args.shape.now) (length c.loop-part.vars.items) c.len.result c.in-Some.part.now same c.in-Some.ensures) c.loop-part.invariant.made
-    (c.shape_var.ensures.clash (c.in-Err.is ∙ ap (λ (f : UnifyFault). Err f) (same_fault c.in-Err.fault e)))
+    (c.shape_var.ensures.clash (clash_told c.shape_var.result c.from_residual.result c.in_err-a.field-0.0 c.in_err-a.was c.from_residual.ensures e))
 
 pub part_vars-returns-clause-made : goal.part_vars-returns-clause-made
 part_vars-returns-clause-made t c =

@@ -1,26 +1,24 @@
 use Rattle.std.proofs.Common.{◌∙◌, ap}
-use Rattle.std.specs.Prelude.{Err}
-use Rattle.abc_unify.specs.declared.graph.UnifyFault.{UnifyFault}
 use Rattle.abc_terms.specs.declared.demand.Demand.TheVariants as demand
 use Rattle.abc_scheme.proofs.Later.{later_then}
-use Rattle.abc_check.proofs.Demanding.{same_fault}
 use Rattle.abc_check.proofs.Holding.{later_demand, held, never_equal, never_shaped}
+use Rattle.abc_unify.proofs.Faults.{clash_told}
 use Rattle.abc_check.proofs.values.hold_shape.Goals as goal
 
-pub returns-in-Ok-equal-clause-ok : goal.returns-in-Ok-equal-clause-ok
-returns-in-Ok-equal-clause-ok c =
-    held c.args.name.now c.args.shape.now c.args.graph.now c.target_var.new.g c.shape_var.new.graph c.args.vars.now c.target_var.new.targets c.in-Ok.target c.in-Ok-shape_var.a c.count-count.ensures.made c.in-Ok.ensures.named c.equal.new.self c.in-Ok-shape_var.ensures.made c.in-Ok-equal.ensures.ok
+pub returns-clause-ok : goal.returns-clause-ok
+returns-clause-ok c =
+    held c.args.name.now c.args.shape.now c.args.graph.now c.target_var.new.g c.shape_var.new.graph c.args.vars.now c.target_var.new.targets c.in_ok-target.target c.in_ok-a.a c.count-count.ensures.made c.in_ok-target.ensures.named c.equal.new.self c.in_ok-a.ensures.made c.in_ok-equal.ensures.ok
 
-pub returns-in-Ok-equal-clause-later : goal.returns-in-Ok-equal-clause-later
-returns-in-Ok-equal-clause-later c =
-    later_demand c.args.graph.now c.shape_var.new.graph c.equal.new.self (demand.Equal c.in-Ok.target c.in-Ok-shape_var.a) (later_then c.args.graph.now c.target_var.new.g c.shape_var.new.graph c.target_var.ensures.later c.shape_var.ensures.later) c.in-Ok-equal.ensures.ok
+pub returns-clause-later : goal.returns-clause-later
+returns-clause-later c =
+    later_demand c.args.graph.now c.shape_var.new.graph c.equal.new.self (demand.Equal c.in_ok-target.target c.in_ok-a.a) (later_then c.args.graph.now c.target_var.new.g c.shape_var.new.graph c.target_var.ensures.later c.shape_var.ensures.later) c.in_ok-equal.ensures.ok
 
-pub returns-in-Err-equal-clause-clash : goal.returns-in-Err-equal-clause-clash
-returns-in-Err-equal-clause-clash c = λ e.
-    never_equal c.args.name.now c.args.shape.now c.args.graph.now c.target_var.new.g c.shape_var.new.graph c.args.vars.now c.target_var.new.targets c.in-Ok.target c.in-Ok-shape_var.a c.count-count.ensures.made c.in-Ok.ensures.named c.in-Ok-shape_var.ensures.made
-    (c.equal.ensures.clash (c.in-Err-equal.is ∙ ap (λ (f : UnifyFault). Err f) (same_fault c.in-Err-equal.fault e)))
+pub returns-in_err-equal-clause-clash : goal.returns-in_err-equal-clause-clash
+returns-in_err-equal-clause-clash c = λ e.
+    never_equal c.args.name.now c.args.shape.now c.args.graph.now c.target_var.new.g c.shape_var.new.graph c.args.vars.now c.target_var.new.targets c.in_ok-target.target c.in_ok-a.a c.count-count.ensures.made c.in_ok-target.ensures.named c.in_ok-a.ensures.made
+    (c.equal.ensures.clash (clash_told c.equal.result c.from_residual-in_err-equal.result c.in_err-equal.field-0.0 c.in_err-equal.was c.from_residual-in_err-equal.ensures e))
 
-pub returns-in-Err-clause-clash : goal.returns-in-Err-clause-clash
-returns-in-Err-clause-clash c = λ e.
-    never_shaped c.args.name.now c.args.shape.now c.args.graph.now c.target_var.new.g c.shape_var.new.graph c.args.vars.now c.target_var.new.targets c.in-Ok.target c.in-Ok.target c.count-count.ensures.made c.in-Ok.ensures.named
-    (c.shape_var.ensures.clash (c.in-Err.is ∙ ap (λ (f : UnifyFault). Err f) (same_fault c.in-Err.fault e)))
+pub returns-in_err-a-clause-clash : goal.returns-in_err-a-clause-clash
+returns-in_err-a-clause-clash c = λ e.
+    never_shaped c.args.name.now c.args.shape.now c.args.graph.now c.target_var.new.g c.shape_var.new.graph c.args.vars.now c.target_var.new.targets c.in_ok-target.target c.in_ok-target.target c.count-count.ensures.made c.in_ok-target.ensures.named
+    (c.shape_var.ensures.clash (clash_told c.shape_var.result c.from_residual-in_err-a.result c.in_err-a.field-0.0 c.in_err-a.was c.from_residual-in_err-a.ensures e))

@@ -8,15 +8,15 @@ use Rattle.abc_principal.proofs.Answering.{if_ok_more}
 use Rattle.abc_principal.proofs.Asked.{calls_own, calls_outside, never_outside}
 use Rattle.abc_principal.proofs.calling.call_signature.Goals as goal
 
-pub returns-in-Ok-clause-ok : goal.returns-in-Ok-clause-ok
-returns-in-Ok-clause-ok c =
+pub returns-in_ok-copy-in-Some-clause-ok : goal.returns-in_ok-copy-in-Some-clause-ok
+returns-in_ok-copy-in-Some-clause-ok c =
     let g = c.args.g.now in
     let targets = c.args.targets.now in
     let members = cuts_of c.args.members.now in
     let owns = c.args.owns.now in
     let own = c.in-Some.own.now in
     let found = sym c.own_signature.ensures ∙ ap (λ (o : Option (Bor SignatureVars)). option_map (λ s. s.now) o) c.in-Some.is in
-    subst (λ (s : SignatureVars). AreCalls members c.args.known.now owns g g targets targets (c.args.t.now ∷ []) (Some s ∷ [])) (sym c.in-Ok.ensures)
+    subst (λ (s : SignatureVars). AreCalls members c.args.known.now owns g g targets targets (c.args.t.now ∷ []) (Some s ∷ [])) (sym c.in_ok-copy-in-Some.ensures)
     (calls_own members c.args.known.now owns g targets c.args.t.now own c.requires.targets c.requires.owns found)
 
 pub returns-in-None-clause-ok : goal.returns-in-None-clause-ok

@@ -3,6 +3,7 @@ use Rattle.std.proofs.lemmas.List.{length-map}
 use Rattle.abc_principal.specs.Exact.{cut_in, cuts_of}
 use Rattle.abc_principal.proofs.Asked.{signatures_more}
 use Rattle.abc_principal.proofs.Fitted.{fitted_none, fitted_next, fitted_whole, never_next}
+use Rattle.abc_unify.proofs.Faults.{clash_told}
 use Rattle.abc_principal.proofs.fitting.fit_members.Goals as goal
 
 pub loop-i-init : goal.loop-i-init
@@ -19,14 +20,14 @@ loop-i-preserved c =
     let members = cuts_of c.args.members.now in
     let many : length members ≡ length c.args.members.now = length-map c.args.members.now cut_in in
     fitted_next members c.args.known.now c.args.owns.now c.args.g.now c.loop-i.g c.fit_member.new.g c.args.targets.now c.loop-i.targets c.fit_member.new.targets members c.loop-i.i c.requires.owns (c.requires.same ∙ sym many)
-    (omega (arith, many, c.loop-i-test.true)) c.loop-i.invariant c.in-Ok.ensures.ok
+    (omega (arith, many, c.loop-i-test.true)) c.loop-i.invariant c.in_ok-fit_member.ensures.ok
 
-pub returns-in-Err-clause-clash : goal.returns-in-Err-clause-clash
-returns-in-Err-clause-clash c = λ e.
+pub returns-in_err-fit_member-clause-clash : goal.returns-in_err-fit_member-clause-clash
+returns-in_err-fit_member-clause-clash c = λ e.
     let members = cuts_of c.args.members.now in
     let many : length members ≡ length c.args.members.now = length-map c.args.members.now cut_in in
     never_next members c.args.known.now c.args.owns.now c.args.g.now c.loop-i.g c.args.targets.now c.loop-i.targets members c.loop-i.i c.requires.owns (c.requires.same ∙ sym many) (omega (arith, many, c.loop-i-test.true)) c.loop-i.invariant
-    (c.fit_member.ensures.clash (c.in-Err.is ∙ e))
+    (c.fit_member.ensures.clash (clash_told c.fit_member.result c.from_residual.result c.in_err-fit_member.field-0.0 c.in_err-fit_member.was c.from_residual.ensures e))
 
 pub returns-clause-ok : goal.returns-clause-ok
 returns-clause-ok c =

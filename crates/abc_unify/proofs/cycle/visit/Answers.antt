@@ -40,8 +40,8 @@ loop-top-init c =
       kept = λ i two. at_least_set _ _ _ _ _ here two (λ e. let s : get_or c.args.marks.now i 0 ≡ get_or c.args.marks.now c.args.start 0 = ap (λ j. get_or c.args.marks.now j 0) e in absurd (omega (arith, two, c.requires.fresh)));
     })
 
-pub returns-then-get-eq1 : goal.returns-then-get-eq1
-returns-then-get-eq1 c =
+pub returns-then-get-eq-OPEN : goal.returns-then-get-eq-OPEN
+returns-then-get-eq-OPEN c =
     let m : Marked c.args.slots.now c.loop-top.marks (c.pop.new.self.items ++ c.in-Some.top ∷ []) c.loop-top.next = rw c.in-Some.ensures.items at c.loop-top.invariant.marked in
-    let mark : get_or c.loop-top.marks c.in-Some-next_below.child 0 ≡ 1 = omega (arith, c.get.ensures, c.if-get-eq1.true) in
+    let mark : get_or c.loop-top.marks c.in-Some-next_below.child 0 ≡ 1 = omega (arith, c.get.ensures, c.if-get-eq-OPEN.true) in
     closed_cycle _ _ _ _ _ _ m c.kind_of-kind.ensures _ c.in-Some-next_below.ensures.child mark

@@ -5,13 +5,13 @@ use Rattle.abc_check.specs.Cuts.{CutsAreSpelled}
 use Rattle.abc_check.specs.declared.fault.CheckFault.TheVariants as fault
 use Rattle.abc_check.proofs.checker.Checker.check_unit.Goals as goal
 
-pub returns-in-Ok-true-clause-ok : goal.returns-in-Ok-true-clause-ok
-returns-in-Ok-true-clause-ok c =
-    subst (λ n. CutsAreSpelled (with_cut c.args.unit.now n c.args.units.now) → IsTypable c.args.targets.now (with_cut c.args.unit.now n c.args.units.now)) c.in-Ok.ensures (λ spelled. (c.in-Ok-true.ensures spelled).0 c.in-Ok-true.field-0-test)
+pub returns-then-branch-clause-ok : goal.returns-then-branch-clause-ok
+returns-then-branch-clause-ok c =
+    subst (λ n. CutsAreSpelled (with_cut c.args.unit.now n c.args.units.now) → IsTypable c.args.targets.now (with_cut c.args.unit.now n c.args.units.now)) c.in_ok-lines.ensures (λ spelled. (c.in_ok-fits_upto.ensures spelled).0 c.if-branch.true)
 
-pub returns-in-Ok-false-clause-fault : goal.returns-in-Ok-false-clause-fault
-returns-in-Ok-false-clause-fault c = λ line e spelled one.
-    let n = c.in-Ok.lines in
+pub returns-else-branch-clause-fault : goal.returns-else-branch-clause-fault
+returns-else-branch-clause-fault c = λ line e spelled one.
+    let n = c.in_ok-lines.lines in
     let f : c.unit_fault.result ≡ fault.TypeFault line = cc in
-    let no : IsTypable c.args.targets.now (with_cut c.args.unit.now n c.args.units.now) → ⊥ = λ p. let g : false ≡ true = sym c.in-Ok-false.field-0-test ∙ (c.in-Ok-false.ensures (spelled n)).1 p in cc in
-    (c.unit_fault.ensures line f spelled (subst (λ k. 1 ≤ k) (sym c.in-Ok.ensures) one) no, subst (λ k. IsTypable c.args.targets.now (with_cut c.args.unit.now k c.args.units.now) → ⊥) c.in-Ok.ensures no)
+    let no : IsTypable c.args.targets.now (with_cut c.args.unit.now n c.args.units.now) → ⊥ = λ p. let g : false ≡ true = sym c.if-branch.false ∙ (c.in_ok-fits_upto.ensures (spelled n)).1 p in cc in
+    (c.unit_fault.ensures line f spelled (subst (λ k. 1 ≤ k) (sym c.in_ok-lines.ensures) one) no, subst (λ k. IsTypable c.args.targets.now (with_cut c.args.unit.now k c.args.units.now) → ⊥) c.in_ok-lines.ensures no)

@@ -17,15 +17,15 @@ take_all-requires-clause-work c =
     let given : c.as_slice.result.now ≡ c.args.demands.items = c.as_slice.ensures.value in
     let made : All (DemandIn (length s.slots.items)) c.as_slice.result.now = subst (λ ds. All (DemandIn (length s.slots.items)) ds) (sym given) c.requires.made in
     let old : c.as_mut_slice.result.now ≡ s.slots.items = search rules in
-    subst (λ xs. ConstraintsIn (length xs) c.in-Ok.work.items) (sym old) (c.in-Ok.ensures.inside (length s.slots.items) made)
+    subst (λ xs. ConstraintsIn (length xs) c.in_ok-work.work.items) (sym old) (c.in_ok-work.ensures.inside (length s.slots.items) made)
 
 pub returns-in-Ok-Solved-clause-kept : goal.returns-in-Ok-Solved-clause-kept
 returns-in-Ok-Solved-clause-kept c =
     let s = c.args.self.now in
     let more = c.args.demands.items in
-    let constraints = c.in-Ok.work.items in
+    let constraints = c.in_ok-work.work.items in
     let given : c.as_slice.result.now ≡ more = c.as_slice.ensures.value in
-    let means : (v : ℕ → Ground) → MeetsAll v more ↔ ConstraintsHold v constraints = λ v. subst (λ ds. MeetsAll v ds ↔ ConstraintsHold v constraints) given (c.in-Ok.ensures.means v) in
+    let means : (v : ℕ → Ground) → MeetsAll v more ↔ ConstraintsHold v constraints = λ v. subst (λ ds. MeetsAll v ds ↔ ConstraintsHold v constraints) given (c.in_ok-work.ensures.means v) in
     let old : c.as_mut_slice.result.now ≡ s.slots.items = search rules in
     let count : length c.take_all.new.slots ≡ length s.slots.items = search rules in
     let len : length c.take_all.new.slots ≡ s.slots.len = search rules in
@@ -56,9 +56,9 @@ pub returns-in-Ok-Clash-clause-clash : goal.returns-in-Ok-Clash-clause-clash
 returns-in-Ok-Clash-clause-clash c e =
     let s = c.args.self.now in
     let more = c.args.demands.items in
-    let constraints = c.in-Ok.work.items in
+    let constraints = c.in_ok-work.work.items in
     let given : c.as_slice.result.now ≡ more = c.as_slice.ensures.value in
-    let means : (v : ℕ → Ground) → MeetsAll v more ↔ ConstraintsHold v constraints = λ v. subst (λ ds. MeetsAll v ds ↔ ConstraintsHold v constraints) given (c.in-Ok.ensures.means v) in
+    let means : (v : ℕ → Ground) → MeetsAll v more ↔ ConstraintsHold v constraints = λ v. subst (λ ds. MeetsAll v ds ↔ ConstraintsHold v constraints) given (c.in_ok-work.ensures.means v) in
     let old : c.as_mut_slice.result.now ≡ s.slots.items = search rules in
     let never : HasNoSolution c.as_mut_slice.result.now constraints = rw c.in-Ok-Clash.field-0-is at c.in-Ok-Clash.ensures.solutions in
     let none : HasNoSolution s.slots.items constraints = rw old at never in
