@@ -8,3 +8,4 @@ pub mod Serving
 pub mod Settled
 pub mod Run
 pub mod Status
+pub mod Stops

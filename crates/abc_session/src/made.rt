@@ -12,6 +12,20 @@ use abc_num::OutOfMemory;
 use abc_outside::{Failed, Host, MemoryHost};
 use std::alloc::Global;
 
+/// Runs the made input that puts so many values, and says its summary. The answer is the status.
+pub(crate) fn run_made<H: Host>(alloc: Global, count: u64, steps: u64, host: &mut H) -> u8
+    ensures run { IsMadeRun H.tells_said H.now H.clock H.stopped count steps host.old host.new result }
+    ensures cause { (bounds : Bounds) → HasCause H.tells_image H.tells_input bounds (H.now host.old) (H.now host.new) result }
+{
+    let Ok(line) = made_summary(alloc, count, steps) else {
+        return MEMORY;
+    };
+    match say_all(host, &line) {
+        Ok(()) => COMPLETE,
+        Err(Failed) => SINK_FAULT,
+    }
+}
+
 /// The summary of the session over the made input that puts so many values, in a store of its own. An item may take so many
 /// steps. That session ends early only for want of memory, since no call of its host is to fail.
 fn made_summary(alloc: Global, count: u64, steps: u64) -> Result<Vec<u8>, OutOfMemory>
@@ -24,19 +38,5 @@ fn made_summary(alloc: Global, count: u64, steps: u64) -> Result<Vec<u8>, OutOfM
         summary_of(alloc, count, &tally)
     } else {
         Err(OutOfMemory)
-    }
-}
-
-/// Runs the made input that puts so many values, and says its summary. The answer is the status.
-pub(crate) fn run_made<H: Host>(alloc: Global, count: u64, steps: u64, host: &mut H) -> u8
-    ensures run { IsMadeRun H.tells_said H.now H.clock H.stopped count steps host.old host.new result }
-    ensures cause { (bounds : Bounds) → HasCause H.tells_image H.tells_input bounds (H.now host.old) (H.now host.new) result }
-{
-    let Ok(line) = made_summary(alloc, count, steps) else {
-        return MEMORY;
-    };
-    match say_all(host, &line) {
-        Ok(()) => COMPLETE,
-        Err(Failed) => SINK_FAULT,
     }
 }

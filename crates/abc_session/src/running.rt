@@ -17,7 +17,8 @@ ghost use Rattle.abc_session.specs.Run.{made_named, steps_named, IsStart, IsComp
 
 use crate::made::run_made;
 use crate::product::product;
-use crate::session::{SessionStop, serve_all};
+use crate::serve::ServeStop;
+use crate::session::serve_all;
 use crate::status::{
     COMPLETE, INPUT_FAULT, INPUT_TOO_LONG, MEMORY, NOT_A_STORE, SINK_FAULT, STORE_FAULT, USAGE,
 };
@@ -29,21 +30,60 @@ use abc_store::laws::images_open_to_one;
 use abc_words::{Request, WordsFault, read_words};
 use std::alloc::Global;
 
-/// The status for this end of a session.
-fn status_of(stop: SessionStop) -> u8
-    ensures input_fault { result ≡ INPUT_FAULT → stop ≡ SessionStop.Input }
-    ensures store_fault { result ≡ STORE_FAULT → stop ≡ SessionStop.StoreFault }
-    ensures sink_fault { result ≡ SINK_FAULT → stop ≡ SessionStop.SinkFault }
-    ensures memory { result ≡ MEMORY → stop ≡ SessionStop.Memory }
-    ensures too_long { result ≡ INPUT_TOO_LONG → stop ≡ SessionStop.Long }
-    ensures no_other { (result ≢ COMPLETE) × (result ≢ NOT_A_STORE) × IsRunStatus result }
+/// Runs with the bounds of the product: 2^40 bytes of image and of input. This is the whole program.
+///
+/// The theorem of the program is the clause `headline`: there are type lines of some first items of its input, each of its item
+/// in the workspace before it, and by all such lines, whatever is told of the items behind, this holds. Whenever the program is
+/// stopped, it had said a front of the output of the session over its input, and whatever image the stop left in the store opens
+/// to the workspace after some of the items. These are all the items of whose reply a byte was said, and at
+/// most one more than those whose reply was said whole. Where the words ask for a made input, only its summary is said, and
+/// all else is untouched.
+pub fn run<H: Host>(alloc: Global, words: &[&str], host: &mut H) -> u8
+    ensures headline { made_named (map (λ word. word.now) words.now) ≡ None → H.tells_image → H.tells_said → H.tells_input → IsStill H.clock H.stopped host.old (H.now host.old).image
+        → (work : Work) → IsStart (H.now host.old).image work
+        → WithTold product_bounds (steps_named (map (λ word. word.now) words.now)) work (H.now host.old).left (λ types. (c s : List ℕ) → H.stopped host.new (H.clock host.old) c s → IsSessionPoint work (session_of types product_bounds (steps_named (map (λ word. word.now) words.now)) work (H.now host.old).left) (H.now host.old).said c s) }
+    ensures run { IsRun H.tells_chosen H.tells_image H.tells_input H.tells_said H.now H.clock H.stopped product_bounds (map (λ word. word.now) words.now) (steps_named (map (λ word. word.now) words.now)) host.old host.new result }
 {
-    match stop {
-        SessionStop::Input => INPUT_FAULT,
-        SessionStop::StoreFault => STORE_FAULT,
-        SessionStop::SinkFault => SINK_FAULT,
-        SessionStop::Memory => MEMORY,
-        SessionStop::Long => INPUT_TOO_LONG,
+    run_within(alloc, words, host, &product())
+}
+
+/// Runs with these bounds: reads the words, chooses and opens the store and the input, serves the items of the input one
+/// after the other, and says their replies. Where the words ask for a made input, it runs that in a store of its own, with the
+/// bounds of the product, and says its summary. The answer is the status.
+pub fn run_within<H: Host>(alloc: Global, words: &[&str], host: &mut H, b: &Bounds) -> u8
+    ensures run { IsRun H.tells_chosen H.tells_image H.tells_input H.tells_said H.now H.clock H.stopped b.now (map (λ word. word.now) words.now) (steps_named (map (λ word. word.now) words.now)) host.old host.new result }
+{
+    match read_words(alloc, words) {
+        Ok(
+            Request::Run {
+                store,
+                input,
+                steps,
+            },
+        ) => run_named(alloc, store, input, steps, host, b),
+        Ok(Request::Make { count, steps }) => run_made(alloc, count, steps, host),
+        Err(WordsFault::Usage) => USAGE,
+        Err(WordsFault::Memory) => MEMORY,
+    }
+}
+
+/// Chooses the store and the input that were named, and runs on them. An item may take so many steps.
+fn run_named<H: Host>(
+    alloc: Global,
+    store: &str,
+    input: Option<&str>,
+    steps: u64,
+    host: &mut H,
+    b: &Bounds,
+) -> u8
+    ensures run { (words : List (List ℕ)) → reading words ≡ Some (on_store store.now (option_map (λ name. name.now) input.entry) steps)
+        → IsRun H.tells_chosen H.tells_image H.tells_input H.tells_said H.now H.clock H.stopped b.now words steps host.old host.new result }
+{
+    images_open_to_one();
+    match host.choose(store, input) {
+        Ok(()) => run_store(alloc, host, &mut Tally::new(), b, steps),
+        Err(ChooseFault::Store) => STORE_FAULT,
+        Err(ChooseFault::Input) => INPUT_FAULT,
     }
 }
 
@@ -93,59 +133,20 @@ pub(crate) fn run_store<H: Host>(
     }
 }
 
-/// Chooses the store and the input that were named, and runs on them. An item may take so many steps.
-fn run_named<H: Host>(
-    alloc: Global,
-    store: &str,
-    input: Option<&str>,
-    steps: u64,
-    host: &mut H,
-    b: &Bounds,
-) -> u8
-    ensures run { (words : List (List ℕ)) → reading words ≡ Some (on_store store.now (option_map (λ name. name.now) input.entry) steps)
-        → IsRun H.tells_chosen H.tells_image H.tells_input H.tells_said H.now H.clock H.stopped b.now words steps host.old host.new result }
+/// The status for this end of a session.
+fn status_of(stop: ServeStop) -> u8
+    ensures input_fault { result ≡ INPUT_FAULT → stop ≡ ServeStop.Input }
+    ensures store_fault { result ≡ STORE_FAULT → stop ≡ ServeStop.StoreFault }
+    ensures sink_fault { result ≡ SINK_FAULT → stop ≡ ServeStop.SinkFault }
+    ensures memory { result ≡ MEMORY → stop ≡ ServeStop.Memory }
+    ensures too_long { result ≡ INPUT_TOO_LONG → stop ≡ ServeStop.Long }
+    ensures no_other { (result ≢ COMPLETE) × (result ≢ NOT_A_STORE) × IsRunStatus result }
 {
-    images_open_to_one();
-    match host.choose(store, input) {
-        Ok(()) => run_store(alloc, host, &mut Tally::new(), b, steps),
-        Err(ChooseFault::Store) => STORE_FAULT,
-        Err(ChooseFault::Input) => INPUT_FAULT,
+    match stop {
+        ServeStop::Input => INPUT_FAULT,
+        ServeStop::StoreFault => STORE_FAULT,
+        ServeStop::SinkFault => SINK_FAULT,
+        ServeStop::Memory => MEMORY,
+        ServeStop::Long => INPUT_TOO_LONG,
     }
-}
-
-/// Runs with these bounds: reads the words, chooses and opens the store and the input, serves the items of the input one
-/// after the other, and says their replies. Where the words ask for a made input, it runs that in a store of its own, with the
-/// bounds of the product, and says its summary. The answer is the status.
-pub fn run_within<H: Host>(alloc: Global, words: &[&str], host: &mut H, b: &Bounds) -> u8
-    ensures run { IsRun H.tells_chosen H.tells_image H.tells_input H.tells_said H.now H.clock H.stopped b.now (map (λ word. word.now) words.now) (steps_named (map (λ word. word.now) words.now)) host.old host.new result }
-{
-    match read_words(alloc, words) {
-        Ok(
-            Request::Run {
-                store,
-                input,
-                steps,
-            },
-        ) => run_named(alloc, store, input, steps, host, b),
-        Ok(Request::Make { count, steps }) => run_made(alloc, count, steps, host),
-        Err(WordsFault::Usage) => USAGE,
-        Err(WordsFault::Memory) => MEMORY,
-    }
-}
-
-/// Runs with the bounds of the product: 2^40 bytes of image and of input. This is the whole program.
-///
-/// The theorem of the program is the clause `headline`: there are type lines of some first items of its input, each of its item
-/// in the workspace before it, and by all such lines, whatever is told of the items behind, this holds. Whenever the program is
-/// stopped, it had said a front of the output of the session over its input, and whatever image the stop left in the store opens
-/// to the workspace after some of the items. These are all the items of whose reply a byte was said, and at
-/// most one more than those whose reply was said whole. Where the words ask for a made input, only its summary is said, and
-/// all else is untouched.
-pub fn run<H: Host>(alloc: Global, words: &[&str], host: &mut H) -> u8
-    ensures headline { made_named (map (λ word. word.now) words.now) ≡ None → H.tells_image → H.tells_said → H.tells_input → IsStill H.clock H.stopped host.old (H.now host.old).image
-        → (work : Work) → IsStart (H.now host.old).image work
-        → WithTold product_bounds (steps_named (map (λ word. word.now) words.now)) work (H.now host.old).left (λ types. (c s : List ℕ) → H.stopped host.new (H.clock host.old) c s → IsSessionPoint work (session_of types product_bounds (steps_named (map (λ word. word.now) words.now)) work (H.now host.old).left) (H.now host.old).said c s) }
-    ensures run { IsRun H.tells_chosen H.tells_image H.tells_input H.tells_said H.now H.clock H.stopped product_bounds (map (λ word. word.now) words.now) (steps_named (map (λ word. word.now) words.now)) host.old host.new result }
-{
-    run_within(alloc, words, host, &product())
 }

@@ -19,7 +19,7 @@ use abc_check::Checker;
 use abc_make::Tally;
 use abc_num::ItemLines;
 use abc_outcome::{AnswerFault, answer_item};
-use abc_outside::{Failed, Host};
+use abc_outside::{Failed, Host, LineStop};
 use abc_reader::Reader;
 use abc_store::Store;
 use std::alloc::Global;
@@ -31,12 +31,12 @@ pub struct Served {
     pub quit: bool,
 }
 
-/// Why an item is not served.
+/// Why an item is not served, or a session ends before its input does.
 #[derive(Clone, Copy, Debug, PartialEq, Eq)]
 pub enum ServeStop {
-    /// The input failed where the item wants a line.
+    /// The input failed where a line is wanted.
     Input,
-    /// The bytes that may be taken from the input are all taken, and the item wants a line.
+    /// The bytes that may be taken from the input are all taken, and a line is wanted.
     Long,
     /// A call on the store failed. The store isn't sound any more.
     StoreFault,
@@ -46,21 +46,45 @@ pub enum ServeStop {
     Memory,
 }
 
-/// Why an item is not served that was not answered.
-fn stop_of_answer(fault: AnswerFault) -> ServeStop
-    ensures input { result ≡ ServeStop.Input → fault ≡ AnswerFault.Input }
-    ensures long { result ≡ ServeStop.Long → fault ≡ AnswerFault.Long }
-    ensures store_fault { result ≡ ServeStop.StoreFault → fault ≡ AnswerFault.StoreFault }
-    ensures failed { fault ≡ AnswerFault.StoreFault → result ≡ ServeStop.StoreFault }
-    ensures memory { result ≡ ServeStop.Memory → fault ≡ AnswerFault.Memory }
-    ensures starved { fault ≡ AnswerFault.Memory → result ≡ ServeStop.Memory }
-    ensures not_sink { result ≡ ServeStop.SinkFault → ⊥ }
-{
-    match fault {
-        AnswerFault::Input => ServeStop::Input,
-        AnswerFault::Long => ServeStop::Long,
-        AnswerFault::StoreFault => ServeStop::StoreFault,
-        AnswerFault::Memory => ServeStop::Memory,
+impl From<AnswerFault> for ServeStop {
+    ghost use Rattle.std.specs.Prelude.{◌≡◌};
+    ghost use Rattle.abc_session.specs.Stops.{stop_of_answer};
+
+    ghost from_gives = { λ fault stop. stop ≡ stop_of_answer fault };
+
+    fn from(fault: AnswerFault) -> ServeStop {
+        match fault {
+            AnswerFault::Input => ServeStop::Input,
+            AnswerFault::Long => ServeStop::Long,
+            AnswerFault::StoreFault => ServeStop::StoreFault,
+            AnswerFault::Memory => ServeStop::Memory,
+        }
+    }
+}
+
+impl From<LineStop> for ServeStop {
+    ghost use Rattle.std.specs.Prelude.{◌≡◌};
+    ghost use Rattle.abc_session.specs.Stops.{stop_of_line};
+
+    ghost from_gives = { λ stop given. given ≡ stop_of_line stop };
+
+    fn from(stop: LineStop) -> ServeStop {
+        match stop {
+            LineStop::Input => ServeStop::Input,
+            LineStop::Long => ServeStop::Long,
+            LineStop::Memory => ServeStop::Memory,
+        }
+    }
+}
+
+impl From<Failed> for ServeStop {
+    ghost use Rattle.std.specs.Prelude.{◌≡◌};
+    ghost use Rattle.abc_session.specs.declared.serve.ServeStop.TheVariants.{SinkFault};
+
+    ghost from_gives = { λ _ stop. stop ≡ SinkFault };
+
+    fn from(_failed: Failed) -> ServeStop {
+        ServeStop::SinkFault
     }
 }
 
@@ -68,8 +92,8 @@ fn stop_of_answer(fault: AnswerFault) -> ServeStop
 /// is kept, and then its reply is said and counted. A session hands the checker of the units and the tally of its replies from
 /// item to item.
 ///
-/// Errors: those of `answer_item`, and `SinkFault` where the reply could not be said whole; then it is not counted. After each but
-/// `StoreFault` the image holds the store, and the checker knows its units, so that items may be served again.
+/// Errors: those of `answer_item`, and `SinkFault` where the reply could not be said whole; then it is not counted. After each
+/// but `StoreFault` the image holds the store, and the checker knows its units, so that items may be served again.
 pub fn serve_item<H: Host>(
     alloc: Global,
     store: &mut Store,
@@ -136,18 +160,9 @@ pub fn serve_item<H: Host>(
     ensures idle { (IsErrOf result ServeStop.Memory ⊎ IsErrOf result ServeStop.Input ⊎ IsErrOf result ServeStop.Long)
         → (c s : List ℕ) → Now H.clock H.stopped host.new c s → Now H.clock H.stopped host.old c s }
 {
-    let answered = match answer_item(alloc, store, checker, host, reader, item, k, steps) {
-        Ok(answered) => answered,
-        Err(fault) => return Err(stop_of_answer(fault)),
-    };
-    let reply = answered.reply.bytes();
-    match say_all(host, reply) {
-        Ok(()) => {
-            tally.add(reply);
-            Ok(Served {
-                quit: answered.quit,
-            })
-        }
-        Err(Failed) => Err(ServeStop::SinkFault),
-    }
+    let answer = answer_item(alloc, store, checker, host, reader, item, k, steps)?;
+    let reply = answer.reply.bytes();
+    say_all(host, reply)?;
+    tally.add(reply);
+    Ok(Served { quit: answer.quit })
 }

@@ -17,7 +17,7 @@ use Rattle.abc_session.proofs.Told.{by_all, with_weaker, with_both}
 use Rattle.abc_session.specs.Serving.{OpensTo, IsSessionPoint}
 use Rattle.abc_session.specs.Settled.{AsksSettled, IsWaiting}
 use Rattle.abc_session.specs.Run.{IsStart, HasEnded, IsWhole}
-use Rattle.abc_session.specs.declared.session.SessionStop.TheVariants as session
+use Rattle.abc_session.specs.declared.serve.ServeStop.TheVariants as serve
 use Rattle.abc_session.specs.declared.status.TheConstants.{INPUT_FAULT, INPUT_TOO_LONG}
 use Rattle.abc_session.proofs.Broken.{idle_between, idle_broken}
 use Rattle.abc_session.proofs.Stops.{either_stop}
@@ -168,7 +168,7 @@ returns-clause-stands g c told told_said told_input quiet work start =
     record {
       waiting = λ ends. of_run g at (λ b w l t. WithTold b c.args.steps w l (λ types. IsWaiting types b c.args.steps w l t new (g.H.Host.stopped c.serve_all.new.host (g.H.Host.clock c.serve_all.new.host)))) told work start
           (c.serve_all.ensures.waiting told told_said told_input (c.in-Ok.ensures.quiet told quiet)
-          (either_stop c.serve_all.result c.in-Err.stop session.Input session.Long (c.status_of.result ≡ INPUT_FAULT) (c.status_of.result ≡ INPUT_TOO_LONG) c.in-Err.is c.status_of.ensures.input_fault c.status_of.ensures.too_long ends));
+          (either_stop c.serve_all.result c.in-Err.stop serve.Input serve.Long (c.status_of.result ≡ INPUT_FAULT) (c.status_of.result ≡ INPUT_TOO_LONG) c.in-Err.is c.status_of.ensures.input_fault c.status_of.ensures.too_long ends));
       between = λ ends. of_run g at (λ b w l t. WithTold b c.args.steps w l (λ types. IsBetween OpensTo (works w (session_of types b c.args.steps w l)) (replies (session_of types b c.args.steps w l)) t new.said (g.H.Host.stopped c.serve_all.new.host (g.H.Host.clock c.serve_all.new.host)))) told work start
           (c.serve_all.ensures.between told told_said told_input (c.in-Ok.ensures.quiet told quiet) (c.in-Err.is ∙ ap (λ x. Err x) (c.status_of.ensures.memory ends)));
       broken = λ ends. of_run g at (λ b w l t. WithTold b c.args.steps w l (λ types. IsBroken OpensTo (works w (session_of types b c.args.steps w l)) (replies (session_of types b c.args.steps w l)) t new.said (g.H.Host.stopped c.serve_all.new.host (g.H.Host.clock c.serve_all.new.host)))) told work start

@@ -20,9 +20,6 @@ use Rattle.abc_session.specs.Place.{Place, place_at, input_ends, lines_left, ses
 use Rattle.abc_session.specs.declared.serve.ServeStop.TheVariants as item
 use Rattle.abc_session.specs.declared.session.Course.{Course}
 use Rattle.abc_session.specs.declared.session.Course.TheVariants.{GoesOn, Ends}
-use Rattle.abc_session.specs.declared.session.SessionStop.{SessionStop}
-use Rattle.abc_session.specs.declared.session.SessionStop.TheVariants as session
-use Rattle.abc_session.proofs.Stops.{stopped_by, stopped_either, stopped_three}
 use Rattle.abc_session.proofs.Turns.{reading_stops, item_stops, item_broken, item_cut}
 use Rattle.abc_session.proofs.Places.{first_item, none_next, past_item, past_quit, past_end, none_left, counts_on, counts_last, wants_item, wants_line, asks_item, asks_inside}
 use Rattle.abc_session.proofs.Broken.{quiet_opens}
@@ -67,25 +64,25 @@ new g c = place_at (c.args.served.now + 1) (work_of c.serve_item.new.store) c.se
 next_number : (n : ℕ) → n + 1 ≡ suc n
 next_number n = omega arith
 
-taken : (g : Over) (c : After-serve_item g) → g.H.Host.tells_input → TookItem (old g c).reading (old g c).left (mid g c).reading (mid g c).left (Some c.in-Ok-Some.item)
-taken g c told = (rw c.in-Ok-Some.field-0-is at c.in-Ok-Some.ensures.item) told
+taken : (g : Over) (c : After-serve_item g) → g.H.Host.tells_input → TookItem (old g c).reading (old g c).left (mid g c).reading (mid g c).left (Some c.in-Some.item)
+taken g c told = (rw c.in-Some.is at c.in_ok-item.ensures.item) told
 
-first_of : (g : Over) (c : After-serve_item g) → g.H.Host.tells_input → next_item (input_ends (old g c)) (lines_left (old g c)) ≡ whole_item c.in-Ok-Some.item (lines_left (mid g c))
-first_of g c told = first_item (old g c).reading (mid g c).reading (old g c).left (mid g c).left c.in-Ok-Some.item (taken g c told)
+first_of : (g : Over) (c : After-serve_item g) → g.H.Host.tells_input → next_item (input_ends (old g c)) (lines_left (old g c)) ≡ whole_item c.in-Some.item (lines_left (mid g c))
+first_of g c told = first_item (old g c).reading (mid g c).reading (old g c).left (mid g c).left c.in-Some.item (taken g c told)
 
 -- the line that is told of the item
-line_here : (g : Over) (c : After-serve_item g) (types : Told) → g.H.Host.tells_input → AreToldAt types c.args.store.now.bounds c.args.steps (old g c) 1 → IsTypeLineOf c.args.store.now.kept c.in-Ok-Some.item (types (c.args.served.now + 1))
+line_here : (g : Over) (c : After-serve_item g) (types : Told) → g.H.Host.tells_input → AreToldAt types c.args.store.now.bounds c.args.steps (old g c) 1 → IsTypeLineOf c.args.store.now.kept c.in-Some.item (types (c.args.served.now + 1))
 line_here g c types told are =
-    subst (λ n. IsTypeLineOf c.args.store.now.kept c.in-Ok-Some.item (types n)) (sym (next_number c.args.served.now))
-    (line_of types c.args.store.now.bounds c.args.steps (old g c) c.in-Ok-Some.item (lines_left (mid g c)) (first_of g c told) are)
+    subst (λ n. IsTypeLineOf c.args.store.now.kept c.in-Some.item (types n)) (sym (next_number c.args.served.now))
+    (line_of types c.args.store.now.bounds c.args.steps (old g c) c.in-Some.item (lines_left (mid g c)) (first_of g c told) are)
 
 abbrev HasLine : (g : Over) → After-serve_item g → Type 0
-HasLine g c = (line : Option ℕ) × IsTypeLineOf c.args.store.now.kept c.in-Ok-Some.item line
+HasLine g c = (line : Option ℕ) × IsTypeLineOf c.args.store.now.kept c.in-Some.item line
 
 line_there : (g : Over) (c : After-serve_item g) → g.H.Host.tells_input → HasLine g c → AreThere c.args.store.now.bounds c.args.steps (old g c) 1
 line_there g c told has = record {
   types = λ _. has.0;
-  are_told = one_told (λ _. has.0) c.args.store.now.bounds c.args.steps (old g c) c.in-Ok-Some.item (lines_left (mid g c)) (first_of g c told) has.1;
+  are_told = one_told (λ _. has.0) c.args.store.now.bounds c.args.steps (old g c) c.in-Some.item (lines_left (mid g c)) (first_of g c told) has.1;
 }
 
 -- an item that was answered has a type line, and one that was not has one too, but for want of memory
@@ -102,7 +99,7 @@ not_starved r (inl is) starved = absurd (cc (is, starved))
 not_starved r (inr is) starved = absurd (cc (is, starved))
 
 -- by the line of an item that was not answered; or nothing was done
-by_told : (g : Over) (c : After-serve_item g) → g.H.Host.tells_input → (X : Told → Type 0) → ((types : Told) → IsTypeLineOf c.args.store.now.kept c.in-Ok-Some.item (types (c.args.served.now + 1)) → X types)
+by_told : (g : Over) (c : After-serve_item g) → g.H.Host.tells_input → (X : Told → Type 0) → ((types : Told) → IsTypeLineOf c.args.store.now.kept c.in-Some.item (types (c.args.served.now + 1)) → X types)
     → (c.serve_item.new.host ≡ c.next_item.new.host → (types : Told) → X types) → WithNext c.args.store.now.bounds c.args.steps (old g c) X
 by_told g c told X by idle = by_sum c.serve_item.ensures.told
   where
@@ -111,18 +108,18 @@ by_told g c told X by idle = by_sum c.serve_item.ensures.told
     by_sum (inl has) = by_line (line_there g c told has) (λ types are. by types (line_here g c types told are))
     by_sum (inr none) = by_any (idle none.1.host)
 
-serving : (g : Over) (c : After-serve_item g) (types : Told) → IsTypeLineOf c.args.store.now.kept c.in-Ok-Some.item (types (c.args.served.now + 1)) → g.H.Host.tells_image → g.H.Host.tells_said → g.H.Host.tells_input
+serving : (g : Over) (c : After-serve_item g) (types : Told) → IsTypeLineOf c.args.store.now.kept c.in-Some.item (types (c.args.served.now + 1)) → g.H.Host.tells_image → g.H.Host.tells_said → g.H.Host.tells_input
     → Leaves g.H.Host.clock g.H.Host.stopped c.args.host.now c.next_item.new.host (IsSessionPoint (old g c).work (session_at types c.args.store.now.bounds c.args.steps (old g c)) (old g c).said)
     → IsQuiet g.H.Host.clock g.H.Host.stopped c.next_item.new.host (g.H.Host.now c.next_item.new.host).image
     → Leaves g.H.Host.clock g.H.Host.stopped c.args.host.now c.serve_item.new.host (IsSessionPoint (old g c).work (session_at types c.args.store.now.bounds c.args.steps (old g c)) (old g c).said)
 serving g c types line told told_said told_input read quiet =
-    item_stops types c.args.store.now.bounds c.args.steps (old g c) (mid g c) c.in-Ok-Some.item (first_of g c told_input) (taken g c told_input).were_read.ends (next_number c.args.served.now) refl c.next_item.ensures.reads_on.rest.said
+    item_stops types c.args.store.now.bounds c.args.steps (old g c) (mid g c) c.in-Some.item (first_of g c told_input) (taken g c told_input).were_read.ends (next_number c.args.served.now) refl c.next_item.ensures.reads_on.rest.said
     g.H.Host.clock g.H.Host.stopped c.next_item.new.host c.serve_item.new.host c.args.host.now read (c.serve_item.ensures.stops (types (c.args.served.now + 1)) line told told_said told_input quiet)
 
-asks_serving : (g : Over) (c : After-serve_item g) (types : Told) → IsTypeLineOf c.args.store.now.kept c.in-Ok-Some.item (types (c.args.served.now + 1)) → Asked (AsksInput types c.args.store.now.bounds c.args.steps (old g c)) (g.H.Host.now c.args.host.now).asked (g.H.Host.now c.next_item.new.host).asked → g.H.Host.tells_said → g.H.Host.tells_input
+asks_serving : (g : Over) (c : After-serve_item g) (types : Told) → IsTypeLineOf c.args.store.now.kept c.in-Some.item (types (c.args.served.now + 1)) → Asked (AsksInput types c.args.store.now.bounds c.args.steps (old g c)) (g.H.Host.now c.args.host.now).asked (g.H.Host.now c.next_item.new.host).asked → g.H.Host.tells_said → g.H.Host.tells_input
     → Asked (AsksInput types c.args.store.now.bounds c.args.steps (old g c)) (g.H.Host.now c.args.host.now).asked (g.H.Host.now c.serve_item.new.host).asked
 asks_serving g c types line so_far told_said told =
-    asks_inside types c.args.store.now.bounds c.args.steps (old g c) (mid g c) c.in-Ok-Some.item (taken g c told) (next_number c.args.served.now) refl c.next_item.ensures.reads_on.rises (c.next_item.ensures.reads_on.total told)
+    asks_inside types c.args.store.now.bounds c.args.steps (old g c) (mid g c) c.in-Some.item (taken g c told) (next_number c.args.served.now) refl c.next_item.ensures.reads_on.rises (c.next_item.ensures.reads_on.total told)
     (g.H.Host.now c.args.host.now).asked (g.H.Host.now c.next_item.new.host).asked (g.H.Host.now c.serve_item.new.host).asked c.next_item.ensures.reads_on.rest.said
     so_far c.serve_item.ensures.reads.ended_asks (c.serve_item.ensures.asked (types (c.args.served.now + 1)) line told_said told)
 
@@ -132,150 +129,145 @@ rises_serving g c told =
     rising_then (next_ask (old g c).reading.taken (old g c).reading.ended) (next_ask (mid g c).reading.taken (mid g c).reading.ended) (next_ask (new g c).reading.taken (new g c).reading.ended)
     (g.H.Host.now c.args.host.now).asked (g.H.Host.now c.next_item.new.host).asked (g.H.Host.now c.serve_item.new.host).asked (c.next_item.ensures.reads_on.asks_rise told) (c.serve_item.ensures.reads.asks_rise told)
 
-pub returns-in-Ok-None-clause-stops : goal.returns-in-Ok-None-clause-stops
-returns-in-Ok-None-clause-stops g c told told_said told_input quiet = by_any (λ types. reading g (goal.at.returns-in-Ok-None-clause-stops g c).After-next_item types told quiet)
+pub returns-in_default-clause-stops : goal.returns-in_default-clause-stops
+returns-in_default-clause-stops g c told told_said told_input quiet = by_any (λ types. reading g (goal.at.returns-in_default-clause-stops g c).After-next_item types told quiet)
 
-pub returns-in-Err-clause-stops : goal.returns-in-Err-clause-stops
-returns-in-Err-clause-stops g c told told_said told_input quiet = by_any (λ types. reading g (goal.at.returns-in-Err-clause-stops g c).After-next_item types told quiet)
-
-pub returns-in-Ok-clause-stops : goal.returns-in-Ok-clause-stops
-returns-in-Ok-clause-stops g c told told_said told_input quiet =
-    let at = goal.at.returns-in-Ok-clause-stops g c in
-    by_line (line_there g at.After-serve_item told_input (answered_line _ _ c.in-Ok.done c.in-Ok.ensures.told)) (λ types are.
-    serving g at.After-serve_item types (line_here g at.After-serve_item types told_input are) told told_said told_input (reading g at.After-next_item types told quiet) (quiet_still g at.After-next_item quiet))
+pub returns-in_err-item-clause-stops : goal.returns-in_err-item-clause-stops
+returns-in_err-item-clause-stops g c told told_said told_input quiet = by_any (λ types. reading g (goal.at.returns-in_err-item-clause-stops g c).After-next_item types told quiet)
 
 pub returns-clause-stops : goal.returns-clause-stops
 returns-clause-stops g c told told_said told_input quiet =
     let at = goal.at.returns-clause-stops g c in
+    by_line (line_there g at.After-serve_item told_input (answered_line _ _ c.in_ok-done.done c.in_ok-done.ensures.told)) (λ types are.
+    serving g at.After-serve_item types (line_here g at.After-serve_item types told_input are) told told_said told_input (reading g at.After-next_item types told quiet) (quiet_still g at.After-next_item quiet))
+
+pub returns-in_err-done-clause-stops : goal.returns-in_err-done-clause-stops
+returns-in_err-done-clause-stops g c told told_said told_input quiet =
+    let at = goal.at.returns-in_err-done-clause-stops g c in
     by_told g at.After-serve_item told_input (λ types. Leaves g.H.Host.clock g.H.Host.stopped c.args.host.now c.serve_item.new.host (IsSessionPoint (old g at.After-serve_item).work (session_at types c.args.store.now.bounds c.args.steps (old g at.After-serve_item)) (old g at.After-serve_item).said))
     (λ types line. serving g at.After-serve_item types line told told_said told_input (reading g at.After-next_item types told quiet) (quiet_still g at.After-next_item quiet))
     (λ same types. subst (λ h. Leaves g.H.Host.clock g.H.Host.stopped c.args.host.now h (IsSessionPoint (old g at.After-serve_item).work (session_at types c.args.store.now.bounds c.args.steps (old g at.After-serve_item)) (old g at.After-serve_item).said))
     (sym same) (reading g at.After-next_item types told quiet))
 
-pub returns-in-Ok-None-clause-asked : goal.returns-in-Ok-None-clause-asked
-returns-in-Ok-None-clause-asked g c told_said told = by_any (λ types. asks_reading g (goal.at.returns-in-Ok-None-clause-asked g c).After-next_item types told_said told)
+pub returns-in_default-clause-asked : goal.returns-in_default-clause-asked
+returns-in_default-clause-asked g c told_said told = by_any (λ types. asks_reading g (goal.at.returns-in_default-clause-asked g c).After-next_item types told_said told)
 
-pub returns-in-Err-clause-asked : goal.returns-in-Err-clause-asked
-returns-in-Err-clause-asked g c told_said told = by_any (λ types. asks_reading g (goal.at.returns-in-Err-clause-asked g c).After-next_item types told_said told)
-
-pub returns-in-Ok-clause-asked : goal.returns-in-Ok-clause-asked
-returns-in-Ok-clause-asked g c told_said told =
-    let at = goal.at.returns-in-Ok-clause-asked g c in
-    by_line (line_there g at.After-serve_item told (answered_line _ _ c.in-Ok.done c.in-Ok.ensures.told)) (λ types are.
-    asks_serving g at.After-serve_item types (line_here g at.After-serve_item types told are) (asks_reading g at.After-next_item types told_said told) told_said told)
+pub returns-in_err-item-clause-asked : goal.returns-in_err-item-clause-asked
+returns-in_err-item-clause-asked g c told_said told = by_any (λ types. asks_reading g (goal.at.returns-in_err-item-clause-asked g c).After-next_item types told_said told)
 
 pub returns-clause-asked : goal.returns-clause-asked
 returns-clause-asked g c told_said told =
     let at = goal.at.returns-clause-asked g c in
+    by_line (line_there g at.After-serve_item told (answered_line _ _ c.in_ok-done.done c.in_ok-done.ensures.told)) (λ types are.
+    asks_serving g at.After-serve_item types (line_here g at.After-serve_item types told are) (asks_reading g at.After-next_item types told_said told) told_said told)
+
+pub returns-in_err-done-clause-asked : goal.returns-in_err-done-clause-asked
+returns-in_err-done-clause-asked g c told_said told =
+    let at = goal.at.returns-in_err-done-clause-asked g c in
     by_told g at.After-serve_item told (λ types. Asked (AsksInput types c.args.store.now.bounds c.args.steps (old g at.After-serve_item)) (g.H.Host.now c.args.host.now).asked (g.H.Host.now c.serve_item.new.host).asked)
     (λ types line. asks_serving g at.After-serve_item types line (asks_reading g at.After-next_item types told_said told) told_said told)
     (λ same types. subst (λ h. Asked (AsksInput types c.args.store.now.bounds c.args.steps (old g at.After-serve_item)) (g.H.Host.now c.args.host.now).asked (g.H.Host.now h).asked) (sym same) (asks_reading g at.After-next_item types told_said told))
 
-pub returns-in-Ok-clause-asks_rise : goal.returns-in-Ok-clause-asks_rise
-returns-in-Ok-clause-asks_rise g c told = rises_serving g (goal.at.returns-in-Ok-clause-asks_rise g c).After-serve_item told
-
 pub returns-clause-asks_rise : goal.returns-clause-asks_rise
 returns-clause-asks_rise g c told = rises_serving g (goal.at.returns-clause-asks_rise g c).After-serve_item told
 
-pub returns-in-Ok-None-clause-ends : goal.returns-in-Ok-None-clause-ends
-returns-in-Ok-None-clause-ends g c types are told _ =
+pub returns-in_err-done-clause-asks_rise : goal.returns-in_err-done-clause-asks_rise
+returns-in_err-done-clause-asks_rise g c told = rises_serving g (goal.at.returns-in_err-done-clause-asks_rise g c).After-serve_item told
+
+pub returns-in_default-clause-ends : goal.returns-in_default-clause-ends
+returns-in_default-clause-ends g c types are told _ =
     past_end types c.args.store.now.bounds c.args.steps g.H.Host.tells_said (place_at c.args.served.now (work_of c.args.store.now) c.args.reader.now (g.H.Host.now c.args.host.now))
-    (place_at c.args.served.now (work_of c.args.store.now) c.next_item.new.self (g.H.Host.now c.next_item.new.host)) ((rw c.in-Ok-None.field-0-is at c.in-Ok-None.ensures.item) told)
+    (place_at c.args.served.now (work_of c.args.store.now) c.next_item.new.self (g.H.Host.now c.next_item.new.host)) ((rw c.in_default.is at c.in_ok-item.ensures.item) told)
     (c.next_item.ensures.stands.at_end told) refl c.next_item.ensures.reads_on.rest.said
 
-abbrev answers : Course → Result Course SessionStop
+abbrev answers : Course → Result Course ServeStop
 answers course = Ok course
 
 answered_so : (a b : Course) → answers a ≡ answers b → a ≡ b
 answered_so a b is = cc
 
-pub returns-in-Ok-clause-goes_on : goal.returns-in-Ok-clause-goes_on
-returns-in-Ok-clause-goes_on g c types are told is =
-    let at = (goal.at.returns-in-Ok-clause-goes_on g c).After-serve_item in
-    past_item types c.args.store.now.bounds c.args.steps g.H.Host.tells_said (old g at) (mid g at) (new g at) c.in-Ok-Some.item (taken g at told) (next_number c.args.served.now) refl c.next_item.ensures.reads_on.rest.said
-    c.args.tally.now c.serve_item.new.tally c.in-Ok.done.quit (c.in-Ok.ensures.served (types (c.args.served.now + 1)) (line_here g at types told are) told) c.serve_item.ensures.reads.stays_ended refl (c.course_behind.ensures.goes_on (answered_so c.course_behind.result GoesOn is)) (line_of types c.args.store.now.bounds c.args.steps (old g at) c.in-Ok-Some.item (lines_left (mid g at)) (first_of g at told) are)
+pub returns-clause-goes_on : goal.returns-clause-goes_on
+returns-clause-goes_on g c types are told is =
+    let at = (goal.at.returns-clause-goes_on g c).After-serve_item in
+    past_item types c.args.store.now.bounds c.args.steps g.H.Host.tells_said (old g at) (mid g at) (new g at) c.in-Some.item (taken g at told) (next_number c.args.served.now) refl c.next_item.ensures.reads_on.rest.said
+    c.args.tally.now c.serve_item.new.tally c.in_ok-done.done.quit (c.in_ok-done.ensures.served (types (c.args.served.now + 1)) (line_here g at types told are) told) c.serve_item.ensures.reads.stays_ended refl (c.course_behind.ensures.goes_on (answered_so c.course_behind.result GoesOn is)) (line_of types c.args.store.now.bounds c.args.steps (old g at) c.in-Some.item (lines_left (mid g at)) (first_of g at told) are)
 
-pub returns-in-Ok-clause-ends : goal.returns-in-Ok-clause-ends
-returns-in-Ok-clause-ends g c types are told is =
-    let at = (goal.at.returns-in-Ok-clause-ends g c).After-serve_item in
-    past_quit types c.args.store.now.bounds c.args.steps g.H.Host.tells_said (old g at) (mid g at) (new g at) c.in-Ok-Some.item (taken g at told) (next_number c.args.served.now) refl c.next_item.ensures.reads_on.rest.said
-    c.args.tally.now c.serve_item.new.tally c.in-Ok.done.quit (c.in-Ok.ensures.served (types (c.args.served.now + 1)) (line_here g at types told are) told) c.serve_item.ensures.reads.stays_ended (c.course_behind.ensures.ends (answered_so c.course_behind.result Ends is))
+pub returns-clause-ends : goal.returns-clause-ends
+returns-clause-ends g c types are told is =
+    let at = (goal.at.returns-clause-ends g c).After-serve_item in
+    past_quit types c.args.store.now.bounds c.args.steps g.H.Host.tells_said (old g at) (mid g at) (new g at) c.in-Some.item (taken g at told) (next_number c.args.served.now) refl c.next_item.ensures.reads_on.rest.said
+    c.args.tally.now c.serve_item.new.tally c.in_ok-done.done.quit (c.in_ok-done.ensures.served (types (c.args.served.now + 1)) (line_here g at types told are) told) c.serve_item.ensures.reads.stays_ended (c.course_behind.ensures.ends (answered_so c.course_behind.result Ends is))
 
-pub returns-in-Ok-None-clause-tallied_whole : goal.returns-in-Ok-None-clause-tallied_whole
-returns-in-Ok-None-clause-tallied_whole g c types are told _ =
+pub returns-in_default-clause-tallied_whole : goal.returns-in_default-clause-tallied_whole
+returns-in_default-clause-tallied_whole g c types are told _ =
     ap (λ s. counted_from c.args.tally.now (replies s))
     (none_left types c.args.store.now.bounds c.args.steps (place_at c.args.served.now (work_of c.args.store.now) c.args.reader.now (g.H.Host.now c.args.host.now))
-    (place_at c.args.served.now (work_of c.args.store.now) c.next_item.new.self (g.H.Host.now c.next_item.new.host)) ((rw c.in-Ok-None.field-0-is at c.in-Ok-None.ensures.item) told))
+    (place_at c.args.served.now (work_of c.args.store.now) c.next_item.new.self (g.H.Host.now c.next_item.new.host)) ((rw c.in_default.is at c.in_ok-item.ensures.item) told))
 
-pub returns-in-Ok-clause-tallied : goal.returns-in-Ok-clause-tallied
-returns-in-Ok-clause-tallied g c types are told is =
-    let at = (goal.at.returns-in-Ok-clause-tallied g c).After-serve_item in
-    counts_on types c.args.store.now.bounds c.args.steps g.H.Host.tells_said (old g at) (mid g at) (new g at) c.in-Ok-Some.item (taken g at told) (next_number c.args.served.now) refl c.next_item.ensures.reads_on.rest.said
-    c.args.tally.now c.serve_item.new.tally c.in-Ok.done.quit (c.in-Ok.ensures.served (types (c.args.served.now + 1)) (line_here g at types told are) told) c.serve_item.ensures.reads.stays_ended refl (c.course_behind.ensures.goes_on (answered_so c.course_behind.result GoesOn is))
+pub returns-clause-tallied : goal.returns-clause-tallied
+returns-clause-tallied g c types are told is =
+    let at = (goal.at.returns-clause-tallied g c).After-serve_item in
+    counts_on types c.args.store.now.bounds c.args.steps g.H.Host.tells_said (old g at) (mid g at) (new g at) c.in-Some.item (taken g at told) (next_number c.args.served.now) refl c.next_item.ensures.reads_on.rest.said
+    c.args.tally.now c.serve_item.new.tally c.in_ok-done.done.quit (c.in_ok-done.ensures.served (types (c.args.served.now + 1)) (line_here g at types told are) told) c.serve_item.ensures.reads.stays_ended refl (c.course_behind.ensures.goes_on (answered_so c.course_behind.result GoesOn is))
 
-pub returns-in-Ok-clause-tallied_whole : goal.returns-in-Ok-clause-tallied_whole
-returns-in-Ok-clause-tallied_whole g c types are told is =
-    let at = (goal.at.returns-in-Ok-clause-tallied_whole g c).After-serve_item in
-    counts_last types c.args.store.now.bounds c.args.steps g.H.Host.tells_said (old g at) (mid g at) (new g at) c.in-Ok-Some.item (taken g at told) (next_number c.args.served.now) refl c.next_item.ensures.reads_on.rest.said
-    c.args.tally.now c.serve_item.new.tally c.in-Ok.done.quit (c.in-Ok.ensures.served (types (c.args.served.now + 1)) (line_here g at types told are) told) c.serve_item.ensures.reads.stays_ended (c.course_behind.ensures.ends (answered_so c.course_behind.result Ends is))
+pub returns-clause-tallied_whole : goal.returns-clause-tallied_whole
+returns-clause-tallied_whole g c types are told is =
+    let at = (goal.at.returns-clause-tallied_whole g c).After-serve_item in
+    counts_last types c.args.store.now.bounds c.args.steps g.H.Host.tells_said (old g at) (mid g at) (new g at) c.in-Some.item (taken g at told) (next_number c.args.served.now) refl c.next_item.ensures.reads_on.rest.said
+    c.args.tally.now c.serve_item.new.tally c.in_ok-done.done.quit (c.in_ok-done.ensures.served (types (c.args.served.now + 1)) (line_here g at types told are) told) c.serve_item.ensures.reads.stays_ended (c.course_behind.ensures.ends (answered_so c.course_behind.result Ends is))
 
-pub returns-in-Err-clause-wants : goal.returns-in-Err-clause-wants
-returns-in-Err-clause-wants g c told stops =
-    by_any (λ types. wants_item types c.args.store.now.bounds c.args.steps (here g (goal.at.returns-in-Err-clause-wants g c).After-next_item) (g.H.Host.now c.next_item.new.host).taken (search rules))
+pub returns-in_err-item-clause-wants : goal.returns-in_err-item-clause-wants
+returns-in_err-item-clause-wants g c told stops =
+    by_any (λ types. wants_item types c.args.store.now.bounds c.args.steps (here g (goal.at.returns-in_err-item-clause-wants g c).After-next_item) (g.H.Host.now c.next_item.new.host).taken (search rules))
 
-pub returns-clause-wants : goal.returns-clause-wants
-returns-clause-wants g c told stops =
-    let at = (goal.at.returns-clause-wants g c).After-serve_item in
-    let reads : IsErrOf c.serve_item.result item.Input ⊎ IsErrOf c.serve_item.result item.Long =
-    stopped_either c.serve_item.result c.in-Err-serve_item.stop c.stop_of_item.result c.in-Err-serve_item.is item.Input item.Long session.Input session.Long c.stop_of_item.ensures.input c.stop_of_item.ensures.long stops in
+pub returns-in_err-done-clause-wants : goal.returns-in_err-done-clause-wants
+returns-in_err-done-clause-wants g c told stops =
+    let at = (goal.at.returns-in_err-done-clause-wants g c).After-serve_item in
+    let reads : IsErrOf c.serve_item.result item.Input ⊎ IsErrOf c.serve_item.result item.Long = search rules in
     let going = false_from_ne_true c.next_item.new.self.ended (λ is. c.serve_item.ensures.ended_ends is reads) in
     by_line (line_there g at told (failed_line _ _ _ (not_starved c.serve_item.result reads) c.serve_item.ensures.told)) (λ types are.
     subst (λ n. WantsInput types c.args.store.now.bounds c.args.steps (old g at) n) (sym c.serve_item.ensures.reads.stands.counts)
-    (wants_line types c.args.store.now.bounds c.args.steps (old g at) (mid g at) c.in-Ok-Some.item (taken g at told) (next_number c.args.served.now) refl c.next_item.ensures.reads_on.rises (c.next_item.ensures.reads_on.total told)
+    (wants_line types c.args.store.now.bounds c.args.steps (old g at) (mid g at) c.in-Some.item (taken g at told) (next_number c.args.served.now) refl c.next_item.ensures.reads_on.rises (c.next_item.ensures.reads_on.total told)
     going c.serve_item.new.reader.taken (c.serve_item.ensures.wants (types (c.args.served.now + 1)) (line_here g at types told are) told reads)))
 
-pub returns-clause-ended_ends : goal.returns-clause-ended_ends
-returns-clause-ended_ends g c is stops =
-    c.serve_item.ensures.ended_ends (c.next_item.ensures.reads_on.stays_ended is)
-    (stopped_either c.serve_item.result c.in-Err-serve_item.stop c.stop_of_item.result c.in-Err-serve_item.is item.Input item.Long session.Input session.Long c.stop_of_item.ensures.input c.stop_of_item.ensures.long stops)
+pub returns-in_err-done-clause-ended_ends : goal.returns-in_err-done-clause-ended_ends
+returns-in_err-done-clause-ended_ends g c is stops =
+    c.serve_item.ensures.ended_ends (c.next_item.ensures.reads_on.stays_ended is) (search rules)
 
-pub returns-in-Err-clause-idle : goal.returns-in-Err-clause-idle
-returns-in-Err-clause-idle g c told quiet _ = still_opens g (goal.at.returns-in-Err-clause-idle g c).After-next_item told quiet
+pub returns-in_err-item-clause-idle : goal.returns-in_err-item-clause-idle
+returns-in_err-item-clause-idle g c told quiet _ = still_opens g (goal.at.returns-in_err-item-clause-idle g c).After-next_item told quiet
 
-pub returns-clause-idle : goal.returns-clause-idle
-returns-clause-idle g c told quiet stops i s stop =
-    still_opens g (goal.at.returns-clause-idle g c).After-next_item told quiet i s
-    (c.serve_item.ensures.idle
-    (stopped_three c.serve_item.result c.in-Err-serve_item.stop c.stop_of_item.result c.in-Err-serve_item.is item.Memory item.Input item.Long session.Memory session.Input session.Long
-    c.stop_of_item.ensures.memory c.stop_of_item.ensures.input c.stop_of_item.ensures.long stops) i s stop)
+pub returns-in_err-done-clause-idle : goal.returns-in_err-done-clause-idle
+returns-in_err-done-clause-idle g c told quiet stops i s stop =
+    still_opens g (goal.at.returns-in_err-done-clause-idle g c).After-next_item told quiet i s (c.serve_item.ensures.idle (search rules) i s stop)
 
-pub returns-clause-broken : goal.returns-clause-broken
-returns-clause-broken g c told told_said told_input quiet stops =
-    let at = goal.at.returns-clause-broken g c in
-    let fault : IsErrOf c.serve_item.result item.StoreFault = stopped_by c.serve_item.result c.in-Err-serve_item.stop c.stop_of_item.result c.in-Err-serve_item.is item.StoreFault session.StoreFault c.stop_of_item.ensures.store_fault stops in
+pub returns-in_err-done-clause-broken : goal.returns-in_err-done-clause-broken
+returns-in_err-done-clause-broken g c told told_said told_input quiet stops =
+    let at = goal.at.returns-in_err-done-clause-broken g c in
+    let fault : IsErrOf c.serve_item.result item.StoreFault = search rules in
     by_line (line_there g at.After-serve_item told_input (failed_line _ _ _ (λ starved. absurd (cc (fault, starved))) c.serve_item.ensures.told)) (λ types are.
-    item_broken types c.args.store.now.bounds c.args.steps (old g at.After-serve_item) (mid g at.After-serve_item) c.in-Ok-Some.item (first_of g at.After-serve_item told_input) (taken g at.After-serve_item told_input).were_read.ends
+    item_broken types c.args.store.now.bounds c.args.steps (old g at.After-serve_item) (mid g at.After-serve_item) c.in-Some.item (first_of g at.After-serve_item told_input) (taken g at.After-serve_item told_input).were_read.ends
     (next_number c.args.served.now) refl c.next_item.ensures.reads_on.rest.said g.H.Host.clock g.H.Host.stopped c.next_item.new.host c.serve_item.new.host g.met.H.Host.since
     (still_opens g at.After-next_item told quiet) (c.serve_item.ensures.stops (types (c.args.served.now + 1)) (line_here g at.After-serve_item types told_input are) told told_said told_input (quiet_still g at.After-next_item quiet))
     (g.H.Host.now c.serve_item.new.host).said (c.serve_item.ensures.unsaid (inr (inr (inl fault)))))
 
-pub returns-clause-cut_short : goal.returns-clause-cut_short
-returns-clause-cut_short g c told told_said told_input quiet stops =
-    let at = goal.at.returns-clause-cut_short g c in
-    let sink : IsErrOf c.serve_item.result item.SinkFault = stopped_by c.serve_item.result c.in-Err-serve_item.stop c.stop_of_item.result c.in-Err-serve_item.is item.SinkFault session.SinkFault c.stop_of_item.ensures.sink_fault stops in
+pub returns-in_err-done-clause-cut_short : goal.returns-in_err-done-clause-cut_short
+returns-in_err-done-clause-cut_short g c told told_said told_input quiet stops =
+    let at = goal.at.returns-in_err-done-clause-cut_short g c in
+    let sink : IsErrOf c.serve_item.result item.SinkFault = search rules in
     by_line (line_there g at.After-serve_item told_input (failed_line _ _ _ (λ starved. absurd (cc (sink, starved))) c.serve_item.ensures.told)) (λ types are.
-    item_cut types c.args.store.now.bounds c.args.steps (old g at.After-serve_item) (mid g at.After-serve_item) c.in-Ok-Some.item (first_of g at.After-serve_item told_input) (taken g at.After-serve_item told_input).were_read.ends
+    item_cut types c.args.store.now.bounds c.args.steps (old g at.After-serve_item) (mid g at.After-serve_item) c.in-Some.item (first_of g at.After-serve_item told_input) (taken g at.After-serve_item told_input).were_read.ends
     (next_number c.args.served.now) refl c.next_item.ensures.reads_on.rest.said (new g at.After-serve_item) (g.H.Host.stopped c.serve_item.new.host (g.H.Host.clock c.serve_item.new.host))
     (c.serve_item.ensures.cut (types (c.args.served.now + 1)) (line_here g at.After-serve_item types told_input are) told_said told_input sink)
     (quiet_opens g.H.Host.clock g.H.Host.stopped c.serve_item.new.host (g.H.Host.now c.serve_item.new.host).image (work_of c.serve_item.new.store) (c.serve_item.ensures.holds told (λ fails. absurd (cc (sink, fails))))
     (c.serve_item.ensures.quiet told (quiet_still g at.After-next_item quiet) (λ fails. absurd (cc (sink, fails))))))
 
-pub returns-in-Ok-None-clause-there : goal.returns-in-Ok-None-clause-there
-returns-in-Ok-None-clause-there g c told = record {
+pub returns-in_default-clause-there : goal.returns-in_default-clause-there
+returns-in_default-clause-there g c told = record {
   types = λ _. None;
-  are_told = none_told (λ _. None) c.args.store.now.bounds c.args.steps (here g (goal.at.returns-in-Ok-None-clause-there g c).After-next_item)
-      (none_next c.args.reader.now c.next_item.new.self (g.H.Host.now c.args.host.now).left (g.H.Host.now c.next_item.new.host).left ((rw c.in-Ok-None.field-0-is at c.in-Ok-None.ensures.item) told));
+  are_told = none_told (λ _. None) c.args.store.now.bounds c.args.steps (here g (goal.at.returns-in_default-clause-there g c).After-next_item)
+      (none_next c.args.reader.now c.next_item.new.self (g.H.Host.now c.args.host.now).left (g.H.Host.now c.next_item.new.host).left ((rw c.in_default.is at c.in_ok-item.ensures.item) told));
 }
 
-pub returns-in-Ok-clause-there : goal.returns-in-Ok-clause-there
-returns-in-Ok-clause-there g c told = line_there g (goal.at.returns-in-Ok-clause-there g c).After-serve_item told (answered_line _ _ c.in-Ok.done c.in-Ok.ensures.told)
+pub returns-clause-there : goal.returns-clause-there
+returns-clause-there g c told = line_there g (goal.at.returns-clause-there g c).After-serve_item told (answered_line _ _ c.in_ok-done.done c.in_ok-done.ensures.told)
