@@ -19,7 +19,7 @@ use Rattle.abc_ground.specs.Fits.{each_fits}
 use Rattle.abc_ground.specs.Calls.{any_allowed}
 use Rattle.abc_ground.specs.Groups.{Cut}
 use Rattle.abc_ground.specs.Typable.{Values, IsOffered, IsTypableWith}
-use Rattle.abc_demand.specs.inner.Walks.{own_nodes, inner_nodes}
+use Rattle.abc_demand.specs.inner.Walks.{own_nodes}
 use Rattle.abc_demand.proofs.Suites.{action_parts, alternative_parts, inner_if, inner_while, inner_for, inner_select}
 use Rattle.abc_check.proofs.Taking.{next_taken}
 use Rattle.abc_check.specs.inner.Ends.{EndBy, of_action, of_alternative, of_inner}
@@ -126,14 +126,16 @@ upto_same (x ∷ xs) m n le e = by_tests (nat_le x.0 m) (nat_le x.0 n) refl refl
 
 -- what is typable up to the last line is so on all lines
 pub all_lines : (values : Values) (w : List Cut) (c : Command) (m n : ℕ) → m ≤ n → EndBy m (seen_command c) → IsTypableWith values w c m → IsTypableWith values w c n
-all_lines values w c m n le e (targets, are, g, fits) = (
+all_lines values w c m n le e (targets, are, may) = (
   targets,
   are,
-  g,
-  record {
-    names = fits.names;
-    targets_are = fits.targets_are;
-    result = fits.result;
-    body = subst (λ xs. each_fits (any_allowed (λ t o. IsOffered w targets t o)) g (nodes xs) [] tt tt) (upto_same (seen_command c) m n le e) fits.body;
-  },
+  (
+    may.0,
+    record {
+      names = may.1.names;
+      targets_are = may.1.targets_are;
+      result = may.1.result;
+      body = subst (λ xs. each_fits (any_allowed (λ t o. IsOffered w targets t o)) may.0 (nodes xs) [] tt tt) (upto_same (seen_command c) m n le e) may.1.body;
+    },
+  ),
 )

@@ -1,6 +1,6 @@
 -- The values of targets, one after the other in the order of their names.
-use Rattle.std.proofs.Common.{◌≡◌, ◌∙◌, ℕ, zero, suc, ◌+◌, List, [], ◌∷◌, ◌++◌, take, cond, ap, sym, subst, append_assoc}
-use Rattle.std.specs.Prelude.{Some, slice_get}
+use Rattle.std.proofs.Common.{◌≡◌, ◌∙◌, ℕ, zero, suc, ◌+◌, List, [], ◌∷◌, ◌++◌, take, cond, ap, sym, subst, refl, append_assoc}
+use Rattle.std.specs.Prelude.{Some, None, slice_get}
 use Rattle.std.specs.List.Sorted.{IsStrictlySortedBy}
 use Rattle.std.specs.Map.{keys_of}
 use Rattle.std.specs.Ordering.{is_eq}
@@ -51,6 +51,18 @@ module _ (es : Targets) (i : ℕ) (names : List (List ℕ)) (name : List ℕ) (r
 
   pub never_next : (w : List Cut) → ((value : Tree) → value_of name es ≡ Some value → (types : List ℕ → Ground) → AreTypes (take i es ++ (name, value) ∷ []) w types → ⊥) → IsTypable es w → ⊥
   never_next w never (types, are) = never own.0 own.2 types (subst (λ (vs : Targets). AreTypes vs w types) (sym (take_next es i (name, own.0) own.1)) (first_types es (i + 1) w types are))
+
+-- where no name is left, these are all
+ended : (es : Targets) (i : ℕ) → slice_get (keys_of es) i ≡ None → take i es ≡ es
+ended [] zero none = refl
+ended [] (suc i) none = refl
+ended (e ∷ es) zero none = absurd (cc)
+ended (e ∷ es) (suc i) none = ap (λ ts. e ∷ ts) (ended es i none)
+
+pub all_asked : (es : Targets) (i : ℕ) (names : List (List ℕ)) (w : List Cut) (demands : List Demand) (vars : List (List ℕ × VarId)) → names ≡ keys_of es → None ≡ slice_get names i
+    → AreAsked demands vars (take i es) w → AreAsked demands vars es w
+all_asked es i names w demands vars are none asked =
+    subst (λ (vs : Targets). AreAsked demands vars vs w) (ended es i (subst (λ (ns : List (List ℕ)). slice_get ns i ≡ None) are (sym none))) asked
 
 -- what came behind, and behind that
 pub behind_then : (before between after : List (List ℕ × VarId)) → ((added : List (List ℕ × VarId)) × (between ≡ before ++ added)) → ((added : List (List ℕ × VarId)) × (after ≡ between ++ added)) → (added : List (List ℕ × VarId)) × (after ≡ before ++ added)

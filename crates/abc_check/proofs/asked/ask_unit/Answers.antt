@@ -1,4 +1,4 @@
-use Rattle.std.proofs.Common.{◌∙◌, ap}
+use Rattle.std.proofs.Common.{◌∙◌}
 use Rattle.abc_principal.specs.Exact.{cut_in}
 use Rattle.abc_check.proofs.Instances.{one_asked, none_asked_more}
 use Rattle.abc_unify.proofs.Faults.{clash_told}

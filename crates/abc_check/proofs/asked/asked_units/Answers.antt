@@ -1,4 +1,4 @@
-use Rattle.std.proofs.Common.{◌∙◌, List, take, ap, subst}
+use Rattle.std.proofs.Common.{List, take, subst}
 use Rattle.abc_ground.specs.Groups.{Cut}
 use Rattle.abc_principal.specs.Exact.{cuts_of}
 use Rattle.abc_check.specs.inner.Asked.{SomeAsked}

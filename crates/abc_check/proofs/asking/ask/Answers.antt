@@ -1,4 +1,4 @@
-use Rattle.std.proofs.Common.{◌∙◌, ap}
+use Rattle.std.proofs.Common.{◌∙◌}
 use Rattle.abc_scheme.proofs.Later.{later_then}
 use Rattle.abc_check.proofs.Accepting.{accepted, refuted, uncalled}
 use Rattle.abc_unify.proofs.Faults.{clash_told}

@@ -1,4 +1,4 @@
-use Rattle.std.proofs.Common.{◌≤◌, length, map, take, take_all, subst, sym, arith}
+use Rattle.std.proofs.Common.{map, subst, arith}
 use Rattle.abc_tree.specs.Lists.{flat}
 use Rattle.abc_check.specs.inner.Ends.{EndBy, of_action, of_alternative}
 use Rattle.abc_check.proofs.Ending.{ends_next, action_ends, alternative_ends, if_ends, while_ends, for_ends, select_ends, others_end}
@@ -27,12 +27,12 @@ inner_end-returns-in_default-clause-ends t c = others_end c.args.node.now c.args
 
 pub suite_end-loop-action-preserved : goal.suite_end-loop-action-preserved
 suite_end-loop-action-preserved t c = record {
-  behind = omega (arith, c.action_end.ensures.behind, c.loop-action.invariant.behind);
-  ends = ends_next of_action c.args.suite.now c.loop-action.action-index c.action-item.result c.loop-action.last c.action_end.result c.loop-action-test.true c.action-item.is c.action_end.ensures.behind c.loop-action.invariant.ends c.action_end.ensures.ends;
+  behind = omega (arith, c.action_end-last.ensures.behind, c.loop-action.invariant.behind);
+  ends = ends_next of_action c.args.suite.now c.loop-action.action-index c.action-item.result c.loop-action.last c.action_end-last.result c.loop-action-test.true c.action-item.is c.action_end-last.ensures.behind c.loop-action.invariant.ends c.action_end-last.ensures.ends;
 }
 
 pub alternatives_end-loop-alternative-preserved : goal.alternatives_end-loop-alternative-preserved
 alternatives_end-loop-alternative-preserved t c = record {
-  behind = omega (arith, c.alternative_end.ensures.behind, c.loop-alternative.invariant.behind);
-  ends = ends_next of_alternative c.args.alternatives.now c.loop-alternative.alternative-index c.alternative-item.result c.loop-alternative.last c.alternative_end.result c.loop-alternative-test.true c.alternative-item.is c.alternative_end.ensures.behind c.loop-alternative.invariant.ends c.alternative_end.ensures.ends;
+  behind = omega (arith, c.alternative_end-last.ensures.behind, c.loop-alternative.invariant.behind);
+  ends = ends_next of_alternative c.args.alternatives.now c.loop-alternative.alternative-index c.alternative-item.result c.loop-alternative.last c.alternative_end-last.result c.loop-alternative-test.true c.alternative-item.is c.alternative_end-last.ensures.behind c.loop-alternative.invariant.ends c.alternative_end-last.ensures.ends;
 }

@@ -14,14 +14,14 @@ use Rattle.abc_check.proofs.members.place_of.Goals as goal
 -- the middle unit, whose template was compared
 compared : (c : After-cmp) (o : Ordering) → c.cmp.result ≡ o → c.halves.low + (c.halves.high - c.halves.low) / 2 < length c.args.members.now
     → (d : _) → template_cmp (template_of (slice_index_or (cuts_of c.args.members.now) (c.halves.low + (c.halves.high - c.halves.low) / 2) d)) c.args.t.now ≡ o
-compared c o is inside = cut_compared c.args.members.now (c.halves.low + (c.halves.high - c.halves.low) / 2) c.index-member.result inside c.index-member.is c.args.t.now o (sym c.cmp.ensures ∙ is)
+compared c o is inside = cut_compared c.args.members.now (c.halves.low + (c.halves.high - c.halves.low) / 2) c.index-members-middle.result inside c.index-members-middle.is c.args.t.now o (sym c.cmp.ensures ∙ is)
 
 pub halves-init : goal.halves-init
 halves-init c = record {
   in_order = omega arith;
-  inside = omega (arith, c.len-high.ensures);
+  inside = omega arith;
   before = λ k d low high. absurd (omega (arith, high));
-  behind = λ k d low high. absurd (omega (arith, low, high, length-map c.args.members.now cut_in, c.len-high.ensures));
+  behind = λ k d low high. absurd (omega (arith, low, high, length-map c.args.members.now cut_in));
 }
 
 pub halves-preserved-in-Less : goal.halves-preserved-in-Less

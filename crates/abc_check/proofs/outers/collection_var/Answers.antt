@@ -1,4 +1,3 @@
-use Rattle.std.proofs.Common.{◌∙◌, ap}
 use Rattle.abc_check.proofs.KindVars.{collection_made, no_collection}
 use Rattle.abc_unify.proofs.Faults.{clash_told}
 use Rattle.abc_check.proofs.outers.collection_var.Goals as goal

@@ -1,4 +1,4 @@
-use Rattle.std.proofs.Common.{◌∙◌, List, ap, sym, subst}
+use Rattle.std.proofs.Common.{List, sym, subst}
 use Rattle.abc_principal.specs.declared.member.Member.{Member}
 use Rattle.abc_principal.specs.Exact.{cuts_of}
 use Rattle.abc_check.specs.inner.Groupwise.{AreFound}

@@ -1,4 +1,4 @@
-use Rattle.std.proofs.Common.{◌≡◌, ◌∙◌, [], ◌∷◌, ◌++◌, ap, subst}
+use Rattle.std.proofs.Common.{◌≡◌, ◌∙◌, [], ◌∷◌, ◌++◌, subst}
 use Rattle.std.specs.Prelude.{Some}
 use Rattle.abc_value.specs.Tree.{Tree}
 use Rattle.abc_ground.specs.Typable.{AreTypes}

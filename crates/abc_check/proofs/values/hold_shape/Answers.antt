@@ -1,4 +1,3 @@
-use Rattle.std.proofs.Common.{◌∙◌, ap}
 use Rattle.abc_terms.specs.declared.demand.Demand.TheVariants as demand
 use Rattle.abc_scheme.proofs.Later.{later_then}
 use Rattle.abc_check.proofs.Holding.{later_demand, held, never_equal, never_shaped}

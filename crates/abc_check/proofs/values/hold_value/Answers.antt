@@ -1,4 +1,4 @@
-use Rattle.std.proofs.Common.{◌∙◌, ap, sym}
+use Rattle.std.proofs.Common.{◌∙◌, sym}
 use Rattle.abc_check.proofs.Holding.{asked_more, never_more, never_has}
 use Rattle.abc_unify.proofs.Faults.{clash_told}
 use Rattle.abc_check.proofs.values.hold_value.Goals as goal

@@ -1,6 +1,6 @@
-use Rattle.std.proofs.Common.{◌∙◌, ap, take}
+use Rattle.std.proofs.Common.{take}
 use Rattle.abc_scheme.proofs.Later.{later_then}
-use Rattle.abc_check.proofs.OwnValues.{asked_next, never_next, behind_then}
+use Rattle.abc_check.proofs.OwnValues.{asked_next, all_asked, never_next, behind_then}
 use Rattle.abc_unify.proofs.Faults.{clash_told}
 use Rattle.abc_check.proofs.values.hold_values.Goals as goal
 
@@ -12,6 +12,10 @@ returns-in_err-hold_named-clause-clash c = λ e w asked typable.
 
 pub returns-in_err-hold_named-clause-later : goal.returns-in_err-hold_named-clause-later
 returns-in_err-hold_named-clause-later c = later_then c.args.graph.now c.loop-number.graph c.hold_named.new.graph c.loop-number.invariant.later c.hold_named.ensures.later
+
+pub returns-in_default-clause-ok : goal.returns-in_default-clause-ok
+returns-in_default-clause-ok c = λ w asked.
+    all_asked c.args.targets.now c.loop-number.number c.in_ok-names.names w c.loop-number.graph.demands c.loop-number.vars c.in_ok-names.ensures.names c.in_default.ensures (c.loop-number.invariant.asked w asked)
 
 pub loop-number-preserved : goal.loop-number-preserved
 loop-number-preserved c = record {

@@ -1,15 +1,16 @@
 use Rattle.std.proofs.Common.{◌≡◌, ◌∙◌, ap}
 use Rattle.std.specs.Prelude.{Err}
+use Rattle.std.proofs.lemmas.Result.{on_ok_weaker}
 use Rattle.abc_unify.specs.declared.graph.UnifyFault.{UnifyFault}
 use Rattle.abc_check.specs.declared.fault.CheckFault.TheVariants as fault
 use Rattle.abc_check.proofs.Linewise.{no_command_fits}
 use Rattle.abc_check.proofs.types.UnitTypes.check_behind.Goals as goal
 
-pub returns-in-Ok-check_held-clause-ok : goal.returns-in-Ok-check_held-clause-ok
-returns-in-Ok-check_held-clause-ok c = λ w knows spelled n le. c.in-Ok-check_held.ensures.ok c.args.targets.now w (record { units = knows.units; asked = c.in-Ok.ensures.ok w knows.asked }) spelled n le
+pub returns-in-Ok-clause-ok : goal.returns-in-Ok-clause-ok
+returns-in-Ok-clause-ok c = on_ok_weaker c.check_held.result (λ fits w knows spelled n le. fits c.args.targets.now w (record { units = knows.units; asked = c.in-Ok.ensures.ok w knows.asked }) spelled n le) c.check_held.ensures.ok
 
-pub returns-in-Err-check_held-clause-fault : goal.returns-in-Err-check_held-clause-fault
-returns-in-Err-check_held-clause-fault c = λ line e w knows spelled. c.check_held.ensures.fault line (c.in-Err-check_held.is ∙ e) c.args.targets.now w (record { units = knows.units; asked = c.in-Ok.ensures.ok w knows.asked }) spelled
+pub returns-in-Ok-clause-fault : goal.returns-in-Ok-clause-fault
+returns-in-Ok-clause-fault c = λ line e w knows spelled. c.check_held.ensures.fault line e c.args.targets.now w (record { units = knows.units; asked = c.in-Ok.ensures.ok w knows.asked }) spelled
 
 pub returns-in-Err-clause-fault : goal.returns-in-Err-clause-fault
 returns-in-Err-clause-fault c = λ line e w knows spelled.

@@ -1,4 +1,4 @@
-use Rattle.std.proofs.Common.{◌∙◌, [], ap}
+use Rattle.std.proofs.Common.{[]}
 use Rattle.abc_ground.specs.Typable.{IsTypable}
 use Rattle.abc_principal.specs.Exact.{cuts_of}
 use Rattle.abc_check.proofs.Beginning.{asked_whole, have_units, joined}
