@@ -84,10 +84,8 @@ fn with_spaces(alloc: Global, left: usize, b: &[u8], right: usize) -> Result<Vec
 {
     let length = left.saturating_add(b.len()).saturating_add(right);
     let mut all = Vec::with_capacity(alloc, length)?;
-    let before = vec![in alloc; SPACE; left]?;
-    all.extend_from_slice(&before)?;
+    all.resize(left, SPACE)?;
     all.extend_from_slice(b)?;
-    let behind = vec![in alloc; SPACE; right]?;
-    all.extend_from_slice(&behind)?;
+    all.resize(length, SPACE)?;
     Ok(all)
 }

@@ -22,6 +22,9 @@ impl Value {
         ensures value { IfOk result (λ v. v ≡ text b.now) }
         ensures sizes { IsMakingOf (text b.now) result }
     {
+        if b.len() > MOST_ELEMENTS {
+            return Err(ValueFault::TooLong);
+        }
         Value::text_from(Vec::from_slice(alloc, b)?)
     }
 
