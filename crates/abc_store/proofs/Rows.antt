@@ -20,7 +20,7 @@ use Rattle.abc_record.specs.Spelling.{spelled_number, spelled_change, spelled}
 use Rattle.abc_record.specs.Kept.{IsKept}
 use Rattle.abc_store.specs.Workspace.{Workspace, empty, changed_by, unit_of_lines, with_routine, checkpoint_of}
 use Rattle.abc_store.specs.Opening.{LeadsTo, OpensTo}
-use Rattle.abc_store.specs.Commit.{Work, store_full, stored}
+use Rattle.abc_store.specs.Commit.{Work, store_full, stored, payloads_committed, payloads_after}
 use Rattle.abc_store.proofs.Images.{come_to, opens_by}
 use Rattle.abc_store.proofs.Typed.{numbers_typed}
 
@@ -93,6 +93,31 @@ makes_room = refl
 -- no change writes nothing, even where nothing fits and a checkpoint is due
 nothing_is_written : stored (within 0 0) (works (x_is 1) (first_at 101 100)) [] (x_is 1) ≡ Ok (works (x_is 1) (first_at 101 100))
 nothing_is_written = refl
+
+-- the payloads then, in the same order: the due checkpoint alone, a record behind it, those that were there where nothing fits, the checkpoint that
+-- stays without the record, and that with the record
+due_alone : (ps : List (List ℕ)) → payloads_after (within 1000 36) (works empty (first_at 65 64)) (put 1) (x_is 1) ps ≡ checkpoint_of (x_is 1) ∷ []
+unfolding committed payloads_committed checkpoint_of spelled_change spelled_text spelled_number in_four in_sixteen in_eight
+due_alone ps = refl
+
+record_behind : (ps : List (List ℕ)) → payloads_after (within 1000 36) (works (x_is 1) (later_at 138 2 101 137 27 1)) (put 2) (x_is 2) ps ≡ ps ++ spelled (put 2) ∷ []
+unfolding committed payloads_committed checkpoint_of spelled_change spelled_text spelled_number in_four in_sixteen in_eight
+record_behind ps = refl
+
+full_leaves_all : (ps : List (List ℕ)) → payloads_after (within 101 1000) (works (x_is 1) (first_at 101 100)) (put 2) (x_is 2) ps ≡ ps
+unfolding committed payloads_committed checkpoint_of spelled_change spelled_text spelled_number in_four in_sixteen in_eight
+full_leaves_all ps = refl
+
+checkpoint_stays : (ps : List (List ℕ)) → payloads_after (within 150 1000) (works empty (first_at 120 119)) (put 2) (x_is 2) ps ≡ checkpoint_of empty ∷ []
+unfolding committed payloads_committed checkpoint_of spelled_change spelled_text spelled_number in_four in_sixteen in_eight
+checkpoint_stays ps = refl
+
+record_behind_room : (ps : List (List ℕ)) → payloads_after (within 150 1000) (works empty (later_at 134 2 120 133 4 1)) (put 2) (x_is 2) ps ≡ checkpoint_of empty ∷ spelled (put 2) ∷ []
+unfolding committed payloads_committed checkpoint_of spelled_change spelled_text spelled_number in_four in_sixteen in_eight
+record_behind_room ps = refl
+
+nothing_is_added : (ps : List (List ℕ)) → payloads_after (within 0 0) (works (x_is 1) (first_at 101 100)) [] (x_is 1) ps ≡ ps
+nothing_is_added ps = refl
 
 -- ---- images
 

@@ -1,11 +1,10 @@
 -- The answers of the journal, by their kinds, and how the steps of a commit come to the whole.
-use Rattle.std.proofs.Common.{◌≡◌, ◌∙◌, inl, inr, ⊎_elim, ℕ, Bool, true, false, not, cond, List, [], ◌∷◌, ◌++◌, length, nat_lt, Option, None, Some, sym, ap, subst, refl}
+use Rattle.std.proofs.Common.{◌≡◌, ◌∙◌, ℕ, Bool, true, false, not, cond, List, [], ◌∷◌, ◌++◌, length, nat_lt, Option, None, Some, sym, ap, subst, refl}
 use Rattle.std.specs.Prelude.{Result, Ok, Err, OnOk, IfErr, IsErrOf}
 use Rattle.abc_journal.specs.declared.faults.AppendFault.{AppendFault}
 use Rattle.abc_journal.specs.declared.faults.AppendFault.TheVariants.{StoreFault, StoreFull, Memory}
 use Rattle.abc_journal.specs.declared.layout.Bounds.{Bounds}
 use Rattle.abc_journal.specs.declared.layout.Layout.{Layout}
-use Rattle.abc_journal.specs.Image.{payloads_of}
 use Rattle.abc_journal.specs.Journal.{IsFull, need_of, after_record}
 use Rattle.abc_journal.specs.Commit.{Full, AnswersTo, and_then, recorded, checkpointed, with_room, with_due, is_due, committed}
 use Rattle.abc_store.specs.declared.faults.CommitFault.{CommitFault}
@@ -13,8 +12,8 @@ use Rattle.abc_store.specs.Workspace.{Workspace, checkpoint_of}
 use Rattle.abc_num.specs.declared.limits.TheConstants.{MOST_RECORD_BYTES}
 use Rattle.abc_record.specs.declared.change.Change.{Change}
 use Rattle.abc_record.specs.Spelling.{spelled}
-use Rattle.abc_store.specs.Commit.{Work, HasRecord, Refusal, too_large, store_full, kept_in, stored, work_after, IsDecided, commit_fault}
-use Rattle.abc_store.specs.inner.Steps.{IsNoFault, IsCheckpoint, IsMadeUp, IsPlan, MayBeRenewed, TakesDue, fits, may_be_due, renewed_by}
+use Rattle.abc_store.specs.Commit.{Work, payloads_tried, payloads_with_room, payloads_with_due, payloads_recorded, payloads_committed, payloads_after, Refusal, too_large, store_full, kept_in, stored, work_after, IsDecided, commit_fault}
+use Rattle.abc_store.specs.inner.Steps.{IsNoFault, IsCheckpoint, IsMadeUp, TakesDue, fits, may_be_due, renewed_by}
 
 -- what holds after each answer but a fault
 pub unless_fault : {T : Type 0} (r : Result T AppendFault) (P : Type 0) → OnOk r P → (IsFull r → P) → (IsErrOf r Memory → ⊥) → IsNoFault r → P
@@ -22,6 +21,21 @@ unless_fault (Ok x) P ok full memory none_wrong = ok
 unless_fault (Err StoreFault) P ok full memory none_wrong = absurd none_wrong
 unless_fault (Err Memory) P ok full memory none_wrong = absurd (memory refl)
 unless_fault (Err (StoreFull need limit)) P ok full memory none_wrong = full tt
+
+-- a step that failed, though without a fault, found the store full
+pub failed_is_full : {T : Type 0} (r : Result T AppendFault) → OnOk r ⊥ → (IsErrOf r Memory → ⊥) → IsNoFault r → IsFull r
+failed_is_full r failed memory none_wrong = unless_fault r (IsFull r) (none_of r failed) (λ full. full) memory none_wrong
+  where
+    none_of : {T : Type 0} (r : Result T AppendFault) → OnOk r ⊥ → OnOk r (IsFull r)
+    none_of (Ok x) failed = absurd failed
+    none_of (Err fault) failed = tt
+
+-- what was full, by its answer
+pub full_found : {T : Type 0} (r : Result T AppendFault) (new : Layout) (found : Result Layout Full) → AnswersTo r new found → IsFull r → (full : Full) × (found ≡ Err full)
+full_found (Ok x) new found a full = absurd full
+full_found (Err StoreFault) new found a full = absurd full
+full_found (Err Memory) new found a full = absurd full
+full_found (Err (StoreFull need limit)) new found a full = (a.0, a.1)
 
 -- what holds after Ok, where every other answer is a fault
 pub ok_alone : {T : Type 0} (r : Result T AppendFault) (P : Type 0) → OnOk r P → IfErr r (λ fault. fault ≡ StoreFault) → IsNoFault r → P
@@ -132,21 +146,58 @@ module _ (bounds : Bounds) (layout roomy added : Layout) (bytes before : ℕ) wh
   takes_due None later made room recorded_is = by_fit (fits bounds layout bytes) refl (not_wanted (may_be_due bounds layout bytes) later made) room recorded_is
   takes_due (Some p) later made room recorded_is = is_made (may_be_due bounds layout bytes) p later made
 
--- what a commit of some changes leaves is their record, by what was made up for it
-module _ (bounds : Bounds) (layout : Layout) (payload : List ℕ) (before after : Option (List ℕ)) (kept later : Workspace) (ps : List (List ℕ)) (image : List ℕ) where
-  pub has_record : (changes : List Change) → MayBeRenewed after (renewed_by before ps ++ payload ∷ []) image → IsPlan bounds layout payload before after kept later → (changes ≡ [] → ⊥) → payload ≡ spelled changes
-      → HasRecord ps kept changes later image
-  has_record [] found plan some is = absurd (some refl)
-  has_record (change ∷ changes) found plan some is = ⊎_elim (in_front before plan.room) (behind after plan.due) found
-    where
-      in_front : (p : Option (List ℕ)) → IsMadeUp (not (fits bounds layout (length payload))) p kept → payloads_of image ≡ Ok (renewed_by p ps ++ payload ∷ []) → HasRecord ps kept (change ∷ changes) later image
-      in_front None made e = inl (e ∙ ap (λ b. Ok (ps ++ b ∷ [])) is)
-      in_front (Some p) made e =
-          inr (inl (e ∙ ap (λ b. Ok (p ∷ b ∷ [])) is ∙ ap (λ b. Ok (b ∷ spelled (change ∷ changes) ∷ [])) (is_made (not (fits bounds layout (length payload))) p kept made).0))
+-- the payloads behind each step of a commit
+module _ (bounds : Bounds) (layout : Layout) (payload before after : List ℕ) (ps : List (List ℕ)) where
+  abbrev bytes : ℕ
+  bytes = length payload
 
-      behind : (p : Option (List ℕ)) → IsMadeUp (may_be_due bounds layout (length payload)) p later → payloads_of image ≡ Ok (renewed_by p (renewed_by before ps ++ payload ∷ [])) → HasRecord ps kept (change ∷ changes) later image
-      behind None made e = in_front before plan.room e
-      behind (Some p) made e = inr (inr (e ∙ ap (λ b. Ok (b ∷ [])) (is_made (may_be_due bounds layout (length payload)) p later made).0))
+  by_steps : (found : Result Layout Full) → with_room bounds layout bytes (length before) ≡ found
+      → payloads_committed bounds layout payload before after ps
+      ≡ payloads_recorded bounds (and_then found (λ roomy. recorded bounds roomy bytes)) payload after (payloads_with_room bounds layout bytes before ps)
+  unfolding payloads_committed
+  by_steps found is =
+      ap (λ w. payloads_recorded bounds (and_then w (λ roomy. recorded bounds roomy bytes)) payload after (payloads_with_room bounds layout bytes before ps)) is
+
+  -- where no room is made, they stay
+  pub room_fails_payloads : (full : Full) → with_room bounds layout bytes (length before) ≡ Err full → payloads_committed bounds layout payload before after ps ≡ ps
+  room_fails_payloads full is = by_steps (Err full) is ∙ by_fit_here (fits bounds layout bytes) (checkpointed bounds layout (length before)) is
+    where
+      by_fit_here : (fit : Bool) (found : Result Layout Full) → cond fit (Ok layout) found ≡ Err full → cond fit ps (payloads_tried found before ps) ≡ ps
+      by_fit_here true found e = refl
+      by_fit_here false (Ok roomy) e = absurd (cc)
+      by_fit_here false (Err other) e = refl
+
+  module _ (roomy : Layout) (room : with_room bounds layout bytes (length before) ≡ Ok roomy) where
+    -- where the record isn't added, those with room stay
+    pub record_fails_payloads : (full : Full) → recorded bounds roomy bytes ≡ Err full → payloads_committed bounds layout payload before after ps ≡ payloads_with_room bounds layout bytes before ps
+    record_fails_payloads full is =
+        by_steps (Ok roomy) room ∙ ap (λ found. payloads_recorded bounds found payload after (payloads_with_room bounds layout bytes before ps)) is
+
+    pub all_done_payloads : (added : Layout) → recorded bounds roomy bytes ≡ Ok added
+        → payloads_committed bounds layout payload before after ps ≡ payloads_with_due bounds added after (payloads_with_room bounds layout bytes before ps ++ payload ∷ [])
+    all_done_payloads added is =
+        by_steps (Ok roomy) room ∙ ap (λ found. payloads_recorded bounds found payload after (payloads_with_room bounds layout bytes before ps)) is
+
+-- what was made up before the record makes room
+module _ (bounds : Bounds) (layout roomy : Layout) (bytes : ℕ) (kept : Workspace) (ps : List (List ℕ)) where
+  pub renewed_is : (before : Option (List ℕ)) → IsMadeUp (not (fits bounds layout bytes)) before kept → with_room bounds layout bytes (length (checkpoint_of kept)) ≡ Ok roomy
+      → renewed_by before ps ≡ payloads_with_room bounds layout bytes (checkpoint_of kept) ps
+  renewed_is before made is = by_fit_here (fits bounds layout bytes) (checkpointed bounds layout (length (checkpoint_of kept))) before made is
+    where
+      by_fit_here : (fit : Bool) (found : Result Layout Full) (p : Option (List ℕ)) → IsMadeUp (not fit) p kept → cond fit (Ok layout) found ≡ Ok roomy
+          → renewed_by p ps ≡ cond fit ps (payloads_tried found (checkpoint_of kept) ps)
+      by_fit_here true found None made e = refl
+      by_fit_here true found (Some p) made e = absurd made
+      by_fit_here false found None made e = absurd made
+      by_fit_here false (Ok l) (Some p) made e = ap (λ b. b ∷ []) made.0
+      by_fit_here false (Err full) (Some p) made e = absurd (cc)
+
+-- what changes that are some, and aren't too large, leave
+pub payloads_by_layout : (bounds : Bounds) (work : Work) (changes : List Change) (later : Workspace) (ps : List (List ℕ)) → (changes ≡ [] → ⊥) → nat_lt MOST_RECORD_BYTES (length (spelled changes)) ≡ false
+    → payloads_after bounds work changes later ps ≡ payloads_committed bounds work.layout (spelled changes) (checkpoint_of work.kept) (checkpoint_of later) ps
+payloads_by_layout bounds work [] later ps some few = absurd (some refl)
+payloads_by_layout bounds work (change ∷ changes) later ps some few =
+    ap (λ (b : Bool). cond b ps (payloads_committed bounds work.layout (spelled (change ∷ changes)) (checkpoint_of work.kept) (checkpoint_of later) ps)) few
 
 -- changes that are refused, though there are some and they aren't too large, are refused by the layout
 pub refused_by_layout : (bounds : Bounds) (work : Work) (changes : List Change) (later : Workspace) (refusal : Refusal) → (changes ≡ [] → ⊥) → nat_lt MOST_RECORD_BYTES (length (spelled changes)) ≡ false

@@ -1,11 +1,10 @@
 -- What a commit comes to, by the lengths of what it writes.
-use Rattle.std.specs.Prelude.{◌≡◌, ◌⊎◌, ℕ, ◌-◌, ◌^◌, min, List, [], ◌∷◌, ◌++◌, length, Result, Ok, Err, if◌then◌else◌, nat_lt}
+use Rattle.std.specs.Prelude.{◌≡◌, ◌⊎◌, ℕ, ◌-◌, ◌^◌, min, List, [], ◌∷◌, ◌++◌, length, Result, Ok, Err, if◌then◌else◌, nat_lt, nat_le}
 use Rattle.abc_num.specs.declared.limits.TheConstants.{MOST_RECORD_BYTES}
 use Rattle.abc_journal.specs.declared.layout.Bounds.{Bounds}
 use Rattle.abc_journal.specs.declared.layout.Layout.{Layout}
-use Rattle.abc_journal.specs.Image.{payloads_of}
-use Rattle.abc_journal.specs.Journal.{HasLayout}
-use Rattle.abc_journal.specs.Commit.{Full, committed}
+use Rattle.abc_journal.specs.Journal.{HasLayout, need_of}
+use Rattle.abc_journal.specs.Commit.{Full, and_then, recorded, checkpointed, with_room, is_due, committed}
 use Rattle.abc_record.specs.declared.change.Change.{Change}
 use Rattle.abc_record.specs.Spelling.{spelled}
 use Rattle.abc_store.specs.declared.faults.CommitFault.{CommitFault}
@@ -68,14 +67,41 @@ Tells (Err (TooLarge bytes)) bounds work found = (many : ℕ) × (found ≡ Err 
 Tells (Err (StoreFull need limit)) bounds work found =
     (full : Full) × (found ≡ Err (store_full full)) × (full.layout ≡ work.layout) × (need ≡ min full.need (2 ^ 64 - 1)) × (limit ≡ bounds.image)
 
--- the image has the record of the changes, which spells them in their order: behind the payloads that were there before, or behind a checkpoint
--- that made room for it; or it has a checkpoint of the later workspace alone, which was taken after it. No change leaves what was there
-abbrev pub HasRecord : List (List ℕ) → Workspace → List Change → Workspace → List ℕ → Type 0
-HasRecord before kept [] later image = payloads_of image ≡ Ok before
-HasRecord before kept (change ∷ changes) later image =
-    (payloads_of image ≡ Ok (before ++ spelled (change ∷ changes) ∷ []))
-    ⊎ (payloads_of image ≡ Ok (checkpoint_of kept ∷ spelled (change ∷ changes) ∷ []))
-    ⊎ (payloads_of image ≡ Ok (checkpoint_of later ∷ []))
+-- the payloads where a checkpoint was tried: it alone where it was placed, else those that were there
+abbrev pub payloads_tried : Result Layout Full → List ℕ → List (List ℕ) → List (List ℕ)
+payloads_tried (Ok layout) checkpoint payloads = checkpoint ∷ []
+payloads_tried (Err full) checkpoint payloads = payloads
+
+-- the payloads where room is made for a record of so many bytes: the checkpoint is tried where the record doesn't fit
+abbrev pub payloads_with_room : Bounds → Layout → ℕ → List ℕ → List (List ℕ) → List (List ℕ)
+payloads_with_room bounds layout bytes checkpoint payloads =
+    if nat_le (need_of layout bytes) bounds.image then payloads else payloads_tried (checkpointed bounds layout (length checkpoint)) checkpoint payloads
+
+-- the payloads where the checkpoint is tried if one is due
+abbrev pub payloads_with_due : Bounds → Layout → List ℕ → List (List ℕ) → List (List ℕ)
+payloads_with_due bounds layout checkpoint payloads =
+    if is_due bounds layout then payloads_tried (checkpointed bounds layout (length checkpoint)) checkpoint payloads else payloads
+
+-- the payloads with the record where it was added, and with the checkpoint that is due after it
+abbrev pub payloads_recorded : Bounds → Result Layout Full → List ℕ → List ℕ → List (List ℕ) → List (List ℕ)
+payloads_recorded bounds (Ok added) payload after payloads = payloads_with_due bounds added after (payloads ++ payload ∷ [])
+payloads_recorded bounds (Err full) payload after payloads = payloads
+
+-- the payloads after a commit, in the steps of its layout (`committed`), by its record and the checkpoints of what was there before it and of what is
+-- there after it
+unfoldable pub payloads_committed : Bounds → Layout → List ℕ → List ℕ → List ℕ → List (List ℕ) → List (List ℕ)
+payloads_committed bounds layout payload before after payloads =
+    payloads_recorded bounds (and_then (with_room bounds layout (length payload) (length before)) (λ roomy. recorded bounds roomy (length payload)))
+    payload after (payloads_with_room bounds layout (length payload) before payloads)
+
+-- the payloads of the image after changes that lead to the later workspace. Where they are kept, their record, which spells them in their order, stands
+-- behind the payloads that were there, or behind the checkpoint that made room for it, or the checkpoint that was due stands alone. Where they are none or
+-- too large the payloads stay, and where the store is full too, unless the checkpoint was placed and the record didn't fit after it: then it stands alone
+abbrev pub payloads_after : Bounds → Work → List Change → Workspace → List (List ℕ) → List (List ℕ)
+payloads_after bounds work [] later payloads = payloads
+payloads_after bounds work (change ∷ changes) later payloads =
+    if nat_lt MOST_RECORD_BYTES (length (spelled (change ∷ changes))) then payloads
+    else payloads_committed bounds work.layout (spelled (change ∷ changes)) (checkpoint_of work.kept) (checkpoint_of later) payloads
 
 -- every answer but a fault of the store
 abbrev pub IsNoFault : {T : Type 0} → Result T CommitFault → Type 0

@@ -7,8 +7,8 @@ ghost use Rattle.abc_journal.specs.Journal.{HasLayout, IsFull};
 ghost use Rattle.abc_journal.specs.Commit.{Full, AnswersTo, recorded, checkpointed, with_room, with_due, is_due as is_due_in, committed};
 ghost use Rattle.abc_store.specs.Workspace.{Workspace, empty, checkpoint_of, IsWellTyped};
 ghost use Rattle.abc_store.specs.Opening.{LeadsTo, OpensTo};
-ghost use Rattle.abc_store.specs.Commit.{Refusal, kept_in, StillOpens, OpensToEither};
-ghost use Rattle.abc_store.specs.inner.Steps.{IsNoFault, SaysLimit, IsMadeUp, IsPlan, fits, renewed_by, MayBeRenewed, TakesDue};
+ghost use Rattle.abc_store.specs.Commit.{Refusal, kept_in, payloads_with_due, payloads_committed, StillOpens, OpensToEither};
+ghost use Rattle.abc_store.specs.inner.Steps.{IsNoFault, SaysLimit, IsMadeUp, IsPlan, fits, renewed_by, TakesDue};
 
 use crate::due::is_due;
 use abc_journal::format::RECORD_EXTRA;
@@ -62,6 +62,7 @@ fn make_room<H: Host>(
         → IsNoFault result → OpensTo (H.now host.new).image kept }
     ensures payloads { H.tells_image → (ps : List (List ℕ)) → payloads_of (H.now host.old).image ≡ Ok ps
         → OnOk result (payloads_of (H.now host.new).image ≡ Ok (renewed_by (option_map (λ p. p.now) before.entry) ps)) }
+    ensures full_host { IsFull result → host.new ≡ host.old }
     ensures fault { IsErrOf result AppendFault.StoreFault → RoseByOne (H.now host.old).store_faults (H.now host.new).store_faults }
     ensures faultless { IsNoFault result → (H.now host.new).store_faults ≡ (H.now host.old).store_faults }
     ensures no_memory { IsErrOf result AppendFault.Memory → ⊥ }
@@ -133,8 +134,9 @@ fn take_due<H: Host>(
     ensures no_other { IfErr result (λ fault. fault ≡ AppendFault.StoreFault) }
     ensures layout { H.tells_image → OnOk result (HasLayout (H.now host.new).image journal.new.layout) }
     ensures opens { H.tells_image → (due : Bool) (later : Workspace) → TakesDue due (option_map (λ p. p.now) after.entry) later → OpensTo (H.now host.old).image later → OnOk result (OpensTo (H.now host.new).image later) }
-    ensures payloads { H.tells_image → (ps : List (List ℕ)) → payloads_of (H.now host.old).image ≡ Ok ps
-        → OnOk result (MayBeRenewed (option_map (λ p. p.now) after.entry) ps (H.now host.new).image) }
+    ensures payloads { H.tells_image → (later : Workspace) → TakesDue (is_due_in journal.old.bounds journal.old.layout) (option_map (λ p. p.now) after.entry) later
+        → (ps : List (List ℕ)) → payloads_of (H.now host.old).image ≡ Ok ps
+        → OnOk result (payloads_of (H.now host.new).image ≡ Ok (payloads_with_due journal.old.bounds journal.old.layout (checkpoint_of later) ps)) }
     ensures fault { IsErrOf result AppendFault.StoreFault → RoseByOne (H.now host.old).store_faults (H.now host.new).store_faults }
     ensures faultless { OnOk result ((H.now host.new).store_faults ≡ (H.now host.old).store_faults) }
     ensures rest { KeepsButStore (H.now host.old) (H.now host.new) }
@@ -183,8 +185,9 @@ pub(crate) fn write_all<H: Host>(
     ensures layout { H.tells_image → IsNoFault result → HasLayout (H.now host.new).image journal.new.layout }
     ensures opens { H.tells_image → (kept later : Workspace) → IsPlan journal.old.bounds journal.old.layout payload.now (option_map (λ p. p.now) before.entry) (option_map (λ p. p.now) after.entry) kept later
         → OpensTo (H.now host.old).image kept → OnOk result (OpensTo (H.now host.new).image later) }
-    ensures payloads { H.tells_image → (ps : List (List ℕ)) → payloads_of (H.now host.old).image ≡ Ok ps
-        → OnOk result (MayBeRenewed (option_map (λ p. p.now) after.entry) (renewed_by (option_map (λ p. p.now) before.entry) ps ++ payload.now ∷ []) (H.now host.new).image) }
+    ensures payloads { H.tells_image → (kept later : Workspace) → IsPlan journal.old.bounds journal.old.layout payload.now (option_map (λ p. p.now) before.entry) (option_map (λ p. p.now) after.entry) kept later
+        → (ps : List (List ℕ)) → payloads_of (H.now host.old).image ≡ Ok ps → IsNoFault result
+        → payloads_of (H.now host.new).image ≡ Ok (payloads_committed journal.old.bounds journal.old.layout payload.now (checkpoint_of kept) (checkpoint_of later) ps) }
     ensures full_opens { H.tells_image → (kept later : Workspace) → IsPlan journal.old.bounds journal.old.layout payload.now (option_map (λ p. p.now) before.entry) (option_map (λ p. p.now) after.entry) kept later
         → OpensTo (H.now host.old).image kept → IsFull result → OpensTo (H.now host.new).image kept }
     ensures unfit { (kept later : Workspace) → IsPlan journal.old.bounds journal.old.layout payload.now (option_map (λ p. p.now) before.entry) (option_map (λ p. p.now) after.entry) kept later

@@ -11,7 +11,7 @@ ghost use Rattle.abc_journal.specs.Journal.{BeginsQuiet, IfNotAStore, IsNotAStor
 ghost use Rattle.abc_record.specs.Kept.{AreKept};
 ghost use Rattle.abc_store.specs.Workspace.{Workspace, changed_by, changes_between, with_targets, with_routine, unit_named, IsWithinLimits, IsWellTyped, AreNamed, AreKeptUnits};
 ghost use Rattle.abc_store.specs.Opening.{Opens, OpensTo};
-ghost use Rattle.abc_store.specs.Commit.{Holds, HasRecord, Refusal, stored, work_after, Tells, IsNoFault, IsDecided, IsTooLarge, IsStoreFull, StillOpens, OpensToEither};
+ghost use Rattle.abc_store.specs.Commit.{Holds, Refusal, stored, work_after, payloads_after, Tells, IsNoFault, IsDecided, IsTooLarge, IsStoreFull, StillOpens, OpensToEither};
 ghost use Rattle.abc_store.specs.View.{work_of};
 
 use crate::CommitFault;
@@ -198,7 +198,8 @@ impl Store {
         ensures holds { H.tells_image → IsNoFault result → Holds (H.now host.new).image (work_of self.new) }
 
         ensures payloads { H.tells_image → (ps : List (List ℕ)) (later : Workspace) → payloads_of (H.now host.old).image ≡ Ok ps
-            → changed_by changes.items self.old.kept ≡ Some later → OnOk result (HasRecord ps self.old.kept changes.items later (H.now host.new).image) }
+            → changed_by changes.items self.old.kept ≡ Some later → IsDecided result
+            → payloads_of (H.now host.new).image ≡ Ok (payloads_after self.old.bounds (work_of self.old) changes.items later ps) }
 
         ensures fault { IsErrOf result CommitFault.StoreFault → RoseByOne (H.now host.old).store_faults (H.now host.new).store_faults }
         ensures faultless { IsNoFault result → (H.now host.new).store_faults ≡ (H.now host.old).store_faults }

@@ -1,10 +1,9 @@
 -- The steps of a commit, seen one by one.
-use Rattle.std.specs.Prelude.{◌≡◌, ◌⊎◌, ℕ, Bool, true, false, not, List, [], ◌∷◌, length, Option, None, Some, Result, Ok, Err, if◌then◌else◌, nat_le}
+use Rattle.std.specs.Prelude.{◌≡◌, ℕ, Bool, true, false, not, List, [], ◌∷◌, length, Option, None, Some, Result, Ok, Err, if◌then◌else◌, nat_le}
 use Rattle.abc_journal.specs.declared.layout.Bounds.{Bounds}
 use Rattle.abc_journal.specs.declared.layout.Layout.{Layout}
 use Rattle.abc_journal.specs.declared.faults.AppendFault.{AppendFault}
 use Rattle.abc_journal.specs.declared.faults.AppendFault.TheVariants as append
-use Rattle.abc_journal.specs.Image.{payloads_of}
 use Rattle.abc_journal.specs.Journal.{need_of, after_record}
 use Rattle.abc_journal.specs.Commit.{is_due}
 use Rattle.abc_store.specs.declared.faults.CommitFault.TheVariants as commit
@@ -63,10 +62,6 @@ pub record IsPlan (bounds : Bounds) (layout : Layout) (payload : List ℕ) (befo
 abbrev pub renewed_by : Option (List ℕ) → List (List ℕ) → List (List ℕ)
 renewed_by None payloads = payloads
 renewed_by (Some payload) payloads = payload ∷ []
-
--- the payloads of an image after a checkpoint that may have been taken, where one was made up
-abbrev pub MayBeRenewed : Option (List ℕ) → List (List ℕ) → List ℕ → Type 0
-MayBeRenewed after payloads image = (payloads_of image ≡ Ok payloads) ⊎ (payloads_of image ≡ Ok (renewed_by after payloads))
 
 -- a checkpoint of the later workspace is there where it is due
 abbrev pub TakesDue : Bool → Option (List ℕ) → Workspace → Type 0

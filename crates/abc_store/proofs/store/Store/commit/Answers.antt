@@ -1,28 +1,44 @@
-use Rattle.std.proofs.Common.{rules, ◌≡◌, ◌∙◌, false, nat_lt, [], length, Some, ap, sym, subst}
+use Rattle.std.proofs.Common.{rules, ◌≡◌, ◌∙◌, ℕ, List, false, nat_lt, [], length, Some, ap, sym, subst}
+use Rattle.std.specs.Prelude.{Ok}
 use Rattle.abc_num.specs.declared.limits.TheConstants.{MOST_RECORD_BYTES}
 use Rattle.abc_outside.specs.Stop.{Leaves}
 use Rattle.abc_record.specs.Spelling.{spelled}
-use Rattle.abc_store.specs.Workspace.{Workspace}
+use Rattle.abc_journal.specs.Image.{payloads_of}
+use Rattle.abc_store.specs.Workspace.{Workspace, changed_by}
 use Rattle.abc_store.specs.Opening.{OpensTo}
 use Rattle.abc_journal.specs.Journal.{IsFull}
-use Rattle.abc_store.specs.Commit.{HasRecord, StillOpens}
+use Rattle.abc_store.specs.Commit.{payloads_after, StillOpens}
 use Rattle.abc_store.specs.View.{work_of}
+use Rattle.abc_store.specs.inner.Steps.{IsNoFault}
 use Rattle.abc_store.specs.inner.Later.{later_of}
-use Rattle.abc_store.proofs.Stepping.{has_record, refused_by_layout, decided_is_full, full_work}
+use Rattle.abc_store.proofs.Stepping.{payloads_by_layout, refused_by_layout, decided_is_full, full_work}
+use Rattle.abc_store.proofs.store.Store.commit.Given.{Over}
+use Rattle.abc_store.proofs.store.Store.commit.Goals.{After-write_all}
 use Rattle.abc_store.proofs.store.Store.commit.Goals as goal
 
-pub returns-in-Ok-clause-payloads : goal.returns-in-Ok-clause-payloads
-returns-in-Ok-clause-payloads g c told ps later are made =
+-- the payloads once all is written that was made up
+payloads_written : (g : Over) (c : After-write_all g) → g.H.Host.tells_image → (ps : List (List ℕ)) (later : Workspace) → payloads_of (g.H.Host.now c.args.host.now).image ≡ Ok ps
+    → changed_by c.args.changes.items c.args.self.now.kept ≡ Some later → IsNoFault c.write_all.result
+    → payloads_of (g.H.Host.now c.write_all.new.host).image ≡ Ok (payloads_after c.args.self.now.bounds (work_of c.args.self.now) c.args.changes.items later ps)
+payloads_written g c told ps later are made none_wrong =
     let kept : Workspace = c.self.inside.contents in
     let last : Workspace = later_of c.prepare.new.contents c.in_ok-payload.later in
     let both : Some later ≡ Some last = search rules in
     let same : later ≡ last = cc in
     let some : c.args.changes.items ≡ [] → ⊥ = search rules in
+    let few : nat_lt MOST_RECORD_BYTES (length (spelled c.args.changes.items)) ≡ false = search rules in
+    let view : kept ≡ c.args.self.now.kept = ap (λ v. v.kept) c.self.view_is in
+    let bounds : c.prepare.new.journal.bounds ≡ c.args.self.now.bounds = search rules in
+    let layout : c.prepare.new.journal.layout ≡ c.args.self.now.layout = search rules in
     let payload : c.deref-2.result.now ≡ spelled c.args.changes.items = search rules in
-    let new = (g.H.Host.now c.write_all.new.host).image in
-    let it : HasRecord ps kept c.args.changes.items last new =
-    has_record c.prepare.new.journal.bounds c.prepare.new.journal.layout _ _ _ kept last ps new c.args.changes.items (c.in-Ok.ensures.payloads told ps are) (search rules) some payload in
-    subst (λ (w : Workspace). HasRecord ps w c.args.changes.items later new) (ap (λ v. v.kept) c.self.view_is) (subst (λ (w : Workspace). HasRecord ps kept c.args.changes.items w new) (sym same) it)
+    let as_planned = payloads_by_layout c.args.self.now.bounds (work_of c.args.self.now) c.args.changes.items later ps some few in
+    c.write_all.ensures.payloads told kept last (search rules) ps are none_wrong ∙ ap (λ (qs : List (List ℕ)). Ok qs) (rw (bounds, layout, payload, view, sym same) (sym as_planned))
+
+pub returns-in-Ok-clause-payloads : goal.returns-in-Ok-clause-payloads
+returns-in-Ok-clause-payloads g c told ps later are made decided = payloads_written g (goal.at.returns-in-Ok-clause-payloads g c).After-write_all told ps later are made (search rules)
+
+pub returns-clause-payloads : goal.returns-clause-payloads
+returns-clause-payloads g c told ps later are made decided = payloads_written g (goal.at.returns-clause-payloads g c).After-write_all told ps later are made (search rules)
 
 pub returns-clause-unfit_stops : goal.returns-clause-unfit_stops
 returns-clause-unfit_stops g c told quiet later refusal made refused =
