@@ -1,7 +1,8 @@
 -- A value asks that the type of its target is of its form.
 use Rattle.std.proofs.Common.{◌≡◌, ◌∙◌, ℕ, ◌<◌, List, [], ◌∷◌, ◌++◌, get_or, ap, sym, subst, arith}
-use Rattle.std.specs.Prelude.{None, Some}
+use Rattle.std.specs.Prelude.{None, Some, Ok, Err, OnOk, OnErr}
 use Rattle.std.specs.List.{All}
+use Rattle.std.specs.declared.result.Result.{Result}
 use Rattle.std.proofs.lemmas.List.Elements.{All-append, All-cons, All-nil, All-push, All-weaker}
 use Rattle.abc_num.proofs.Parts.{All-front, All-behind}
 use Rattle.abc_num.specs.Types.{IsProper}
@@ -27,9 +28,10 @@ use Rattle.abc_check.specs.Standing.{AreAsked}
 use Rattle.abc_check.specs.inner.Shaped.{IsShapeVar, NoShapeVar, IsHeld, NotHeld}
 use Rattle.abc_check.proofs.KindVars.{met_low}
 
--- one demand more is a way on
-pub later_demand : (s t u : Seen) (d : Demand) → IsLater s t → u ≡ with_demand t d → IsLater s u
-later_demand s t u d one is = later_demands s t u (d ∷ []) one is
+-- one demand more is a way on, whether it was taken or refused
+pub later_demand : {X E : Type 0} (r : Result X E) (s t u : Seen) (d : Demand) → IsLater s t → OnOk r (u ≡ with_demand t d) → OnErr r (u ≡ t) → IsLater s u
+later_demand (Ok x) s t u d one is same = later_demands s t u (d ∷ []) one is
+later_demand (Err e) s t u d one is same = subst (λ (y : Seen). IsLater s y) (sym same) one
 
 abbrev Vars : Type 0
 Vars = List (List ℕ × VarId)

@@ -1,6 +1,7 @@
 -- Lemmas on the type check.
 pub mod Accepting
 pub mod Alike
+pub mod Answering
 pub mod Beginning
 pub mod Ending
 pub mod Finding
@@ -10,6 +11,7 @@ pub mod Holding
 pub mod Instances
 pub mod KindVars
 pub mod Knowing
+pub mod Lasting
 pub mod Linewise
 pub mod Membering
 pub mod Offering

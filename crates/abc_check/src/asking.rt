@@ -73,6 +73,5 @@ pub fn ask(
 {
     let templates = command_nodes(alloc, command, upto)?;
     let calls = call_signatures(alloc, graph, targets, &[], &[], known, &templates)?;
-    demand(alloc, graph, targets, calls, command, upto)?;
-    Ok(())
+    demand(alloc, graph, targets, calls, command, upto)
 }

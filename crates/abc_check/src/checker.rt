@@ -20,8 +20,10 @@ use abc_unify::UnifyFault;
 use std::alloc::Global;
 
 /// The checker of a workspace: what is known of its units. The values of targets come with each check, so nothing is to be kept
-/// up to date when they change. A check of a command asks for the types of all targets and goes over the command, once each, and
-/// walks over no unit and no value. A command that is refused is gone over again each time that its lines are halved.
+/// up to date when they change. A check of a command asks once for the types of all targets, and goes over the command three
+/// times: for the units that it calls, for the names that it binds, and for what its nodes ask. It walks over no unit and no
+/// value; each call copies what is known of its unit. A command that is refused is gone over once more for its last line, and
+/// three times more each time that its lines are halved.
 #[derive(Drop)]
 pub enum Checker {
     Typable(UnitTypes),

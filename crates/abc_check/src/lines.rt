@@ -1,17 +1,19 @@
 //! The line up to which the nodes of a command stand.
-ghost use Rattle.std.specs.Prelude.{◌≤◌, map};
+ghost use Rattle.std.specs.Prelude.{◌≡◌, ◌≤◌, max, map};
+ghost use Rattle.abc_tree.specs.Height.{highest};
 ghost use Rattle.abc_tree.specs.Lists.{flat};
 ghost use Rattle.abc_ground.specs.Seen.{seen_command};
 ghost use Rattle.abc_groups.specs.Program.{LAST_LINE};
-ghost use Rattle.abc_check.specs.inner.Ends.{EndBy, of_action, of_alternative, of_inner};
+ghost use Rattle.abc_check.specs.inner.Ends.{EndBy, of_action, of_alternative, of_inner, last_of_action, last_of_alternative, last_of_inner};
 
 use abc_tree::{Action, ActionNode, Alternative, Command};
 
-/// The last line of a command and of the commands in it.
+/// The last line of a command and of the commands and alternatives in it, or 1, if that is greater.
 pub(crate) fn last_line(command: &Command) -> u32
     ensures from { 1 ≤ result }
     ensures within { result ≤ LAST_LINE }
     ensures ends { EndBy result (seen_command command.now) }
+    ensures greatest { result ≡ max 1 (last_of_action command.now.action) }
 {
     action_end(&command.action, 1)
 }
@@ -19,8 +21,8 @@ pub(crate) fn last_line(command: &Command) -> u32
 /// The last line of a command and of those in it, or `before`, if that is greater.
 #[cycle(ends)]
 fn action_end(action: &Action, before: u32) -> u32
-    ensures behind { before ≤ result }
     ensures ends { EndBy result (of_action action.now) }
+    ensures greatest { result ≡ max before (last_of_action action.now) }
 {
     inner_end(&action.node, before.max(action.line))
 }
@@ -28,8 +30,8 @@ fn action_end(action: &Action, before: u32) -> u32
 /// The same of the commands in a command alone.
 #[cycle(ends)]
 fn inner_end(node: &ActionNode, before: u32) -> u32
-    ensures behind { before ≤ result }
     ensures ends { EndBy result (of_inner node.now) }
+    ensures greatest { result ≡ max before (last_of_inner node.now) }
 {
     match node {
         ActionNode::If(_, suite) => suite_end(suite.as_slice(), before),
@@ -42,8 +44,8 @@ fn inner_end(node: &ActionNode, before: u32) -> u32
 
 #[cycle(ends)]
 fn suite_end(suite: &[Action], before: u32) -> u32
-    ensures behind { before ≤ result }
     ensures ends { EndBy result (flat (map of_action suite.now)) }
+    ensures greatest { result ≡ max before (highest (map last_of_action suite.now)) }
 {
     let mut last = before;
     for action in suite {
@@ -54,8 +56,8 @@ fn suite_end(suite: &[Action], before: u32) -> u32
 
 #[cycle(ends)]
 fn alternatives_end(alternatives: &[Alternative], before: u32) -> u32
-    ensures behind { before ≤ result }
     ensures ends { EndBy result (flat (map of_alternative alternatives.now)) }
+    ensures greatest { result ≡ max before (highest (map last_of_alternative alternatives.now)) }
 {
     let mut last = before;
     for alternative in alternatives {
@@ -66,8 +68,8 @@ fn alternatives_end(alternatives: &[Alternative], before: u32) -> u32
 
 #[cycle(ends)]
 fn alternative_end(alternative: &Alternative, before: u32) -> u32
-    ensures behind { before ≤ result }
     ensures ends { EndBy result (of_alternative alternative.now) }
+    ensures greatest { result ≡ max before (last_of_alternative alternative.now) }
 {
     suite_end(alternative.suite.as_slice(), before.max(alternative.line))
 }

@@ -42,8 +42,7 @@ fn any_var(graph: &mut Graph) -> Result<VarId, UnifyFault>
     ensures later { IsLater graph.old graph.new }
 {
     let _count = graph.count();
-    let a = fresh_var(graph)?;
-    Ok(a)
+    fresh_var(graph)
 }
 
 /// A variable for numbers.
@@ -53,8 +52,7 @@ fn number_var(graph: &mut Graph) -> Result<VarId, UnifyFault>
     ensures later { IsLater graph.old graph.new }
 {
     let _count = graph.count();
-    let a = node_var(graph, Term::Number)?;
-    Ok(a)
+    node_var(graph, Term::Number)
 }
 
 /// A variable for texts.
@@ -64,8 +62,7 @@ fn text_var(graph: &mut Graph) -> Result<VarId, UnifyFault>
     ensures later { IsLater graph.old graph.new }
 {
     let _count = graph.count();
-    let a = node_var(graph, Term::Text)?;
-    Ok(a)
+    node_var(graph, Term::Text)
 }
 
 /// A variable for any list and any table.
@@ -93,8 +90,7 @@ fn list_var(alloc: Global, graph: &mut Graph, parts: &[VarId]) -> Result<VarId, 
         return Err(UnifyFault::Clash);
     }
     let term = Term::list_of(alloc, parts[0])?;
-    let a = node_var(graph, term)?;
-    Ok(a)
+    node_var(graph, term)
 }
 
 /// A variable for tables of keys and associates of these types.
@@ -109,8 +105,7 @@ fn table_var(alloc: Global, graph: &mut Graph, parts: &[VarId]) -> Result<VarId,
         return Err(UnifyFault::Clash);
     }
     let term = Term::table_of(alloc, parts[0], parts[1])?;
-    let a = node_var(graph, term)?;
-    Ok(a)
+    node_var(graph, term)
 }
 
 /// A variable for compounds of fields of these types. No proper type is a compound of fewer than two.
@@ -125,8 +120,7 @@ fn compound_var(alloc: Global, graph: &mut Graph, parts: &[VarId]) -> Result<Var
         return Err(UnifyFault::Clash);
     }
     let term = Term::compound_of(alloc, parts)?;
-    let a = node_var(graph, term)?;
-    Ok(a)
+    node_var(graph, term)
 }
 
 /// A variable for types of this kind, with parts of these types. Clash comes only where there is none.

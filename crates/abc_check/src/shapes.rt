@@ -23,8 +23,7 @@ pub(crate) fn shape_var(
     ensures later { IsLater graph.old graph.new }
 {
     let parts = part_vars(alloc, graph, shape)?;
-    let a = outer_var(alloc, graph, shape.kind(), &parts)?;
-    Ok(a)
+    outer_var(alloc, graph, shape.kind(), &parts)
 }
 
 /// Variables for the types of the parts of a shape.

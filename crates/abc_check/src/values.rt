@@ -38,8 +38,7 @@ fn hold_shape(
     let _count = graph.count();
     let target = target_var(alloc, graph, vars, name)?;
     let a = shape_var(alloc, graph, shape)?;
-    graph.equal(target, a)?;
-    Ok(())
+    graph.equal(target, a)
 }
 
 /// Asks that one target more has a type of its value.
@@ -58,10 +57,7 @@ fn hold_value(
     ensures behind { (added : List (List ℕ × TheVar)) × (vars.new ≡ vars.old ++ added) }
 {
     match Shape::of(alloc, value)? {
-        Some(shape) => {
-            hold_shape(alloc, graph, vars, name, &shape)?;
-            Ok(())
-        }
+        Some(shape) => hold_shape(alloc, graph, vars, name, &shape),
         None => Err(UnifyFault::Clash),
     }
 }
@@ -82,10 +78,7 @@ fn hold_named(
     ensures behind { (added : List (List ℕ × TheVar)) × (vars.new ≡ vars.old ++ added) }
 {
     match targets.look(name) {
-        Some(value) => {
-            hold_value(alloc, graph, vars, name, value)?;
-            Ok(())
-        }
+        Some(value) => hold_value(alloc, graph, vars, name, value),
         None => Ok(()),
     }
 }

@@ -1,7 +1,10 @@
 -- Graphs to which something was added, and the way back.
-use Rattle.std.proofs.Common.{◌≡◌, ◌∙◌, ℕ, ◌+◌, ◌≤◌, [], ◌∷◌, ◌++◌, length, ap, sym, subst, refl, arith}
+use Rattle.std.proofs.Common.{◌≡◌, ◌∙◌, ℕ, ◌+◌, ◌≤◌, List, [], ◌∷◌, ◌++◌, length, ap, sym, subst, refl, arith}
+use Rattle.std.specs.Prelude.{Ok, Err, OnOk, OnErr}
+use Rattle.std.specs.declared.result.Result.{Result}
 use Rattle.std.proofs.Math.ListN.{length-append}
-use Rattle.abc_unify.specs.Graphs.{Seen, held, back_at, with_variable}
+use Rattle.abc_terms.specs.declared.demand.Demand.{Demand}
+use Rattle.abc_unify.specs.Graphs.{Seen, held, back_at, with_variable, with_demands}
 use Rattle.abc_unify.proofs.Backward.{back_now, back_more}
 use Rattle.abc_demand.specs.Later.{IsLater}
 
@@ -24,6 +27,11 @@ later_fresh s t u one is = later_then s t u one (later_added t u (ap (λ x. x.pa
 
 pub later_equal : (s t u : Seen) → IsLater s t → u ≡ t → IsLater s u
 later_equal s t u one is = subst (λ (x : Seen). IsLater s x) (sym is) one
+
+-- whether the demands were taken or refused
+pub later_asked : {X E : Type 0} (r : Result X E) (s t u : Seen) (ds : List Demand) → IsLater s t → OnOk r (u ≡ with_demands t ds) → OnErr r (u ≡ t) → IsLater s u
+later_asked (Ok x) s t u ds one is same = later_then s t u one (later_added t u (ap (λ y. y.past) is))
+later_asked (Err e) s t u ds one is same = later_equal s t u one same
 
 -- going back to the state at the beginning
 pub back_first : (s t u : Seen) (m : ℕ) → m ≡ length s.past → IsLater s t → u ≡ back_at t m → u ≡ s

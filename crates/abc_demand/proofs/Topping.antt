@@ -354,6 +354,10 @@ pub on_ok : {E : Type 0} (r : Result (Unit {0}) E) (A B : Type 0) → (A → B) 
 on_ok (Ok x) A B f a = f a
 on_ok (Err e) A B f a = tt
 
+pub on_ok_both : {E A B C : Type 0} (r : Result (Unit {0}) E) → OnOk r A → OnOk r B → (A → B → C) → OnOk r C
+on_ok_both (Ok x) a b f = f a b
+on_ok_both (Err e) a b f = tt
+
 vars_low : (n : ℕ) (vars : List VarId) → AreMade n vars → vars_bound vars ≤ n
 vars_low n [] made = omega arith
 vars_low n (a ∷ vars) made = let rest : vars_bound vars ≤ n = vars_low n vars (All-tail (λ b. b.0 < n) a vars made) in let here : a.0 < n = All-head (λ b. b.0 < n) a vars made in omega (arith, rest, here)

@@ -36,8 +36,7 @@ fn add_all(g: &mut Graph, made: u32, demands: Vec<Demand>) -> Result<(), UnifyFa
     ensures later { IsLater g.old g.new }
 {
     make(g, made)?;
-    g.demand_all(demands)?;
-    Ok(())
+    g.demand_all(demands)
 }
 
 /// Makes so many variables.

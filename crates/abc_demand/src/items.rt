@@ -100,8 +100,7 @@ fn add_unit(
     let mut draft = Draft::new(alloc, g.count());
     draft.add_unit(env, unit, upto)?;
     let collected = draft.finish();
-    add(g, collected.made, collected.demands)?;
-    Ok(())
+    add(g, collected.made, collected.demands)
 }
 
 fn add_command(
@@ -125,8 +124,7 @@ fn add_command(
     let mut draft = Draft::new(alloc, g.count());
     draft.add_command(env, command, upto)?;
     let collected = draft.finish();
-    add(g, collected.made, collected.demands)?;
-    Ok(())
+    add(g, collected.made, collected.demands)
 }
 
 impl Draft {

@@ -51,8 +51,7 @@ fn first_placed(
     ensures { IfOk result (λ vars. vars.items ≡ placed_vars (number_in table.now) (take count scheme.now.own)) }
 {
     let own = scheme.own.as_slice();
-    let vars = renamed_vars(alloc, &own[..count], table)?;
-    Ok(vars)
+    renamed_vars(alloc, &own[..count], table)
 }
 
 /// The variables in place of the others.
@@ -68,8 +67,7 @@ fn rest_placed(
     ensures { IfOk result (λ vars. vars.items ≡ placed_vars (number_in table.now) (drop count scheme.now.own)) }
 {
     let own = scheme.own.as_slice();
-    let vars = renamed_vars(alloc, &own[count..], table)?;
-    Ok(vars)
+    renamed_vars(alloc, &own[count..], table)
 }
 
 /// The demands of a copy over the variables of the table, the first own variables of which are those given.
@@ -106,17 +104,9 @@ pub fn copy_behind(
     ensures later { IsLater g.old g.new }
 {
     let _count = g.count();
-    let Ok(table) = fresh_vars(alloc, g, scheme.count) else {
-        return Err(UnifyFault::Memory);
-    };
-    let Ok(demands) = copied_demands(alloc, scheme, given, &table) else {
-        return Err(UnifyFault::Memory);
-    };
-    let Ok(own) = rest_placed(alloc, scheme, given.len(), &table) else {
-        return Err(UnifyFault::Memory);
-    };
-    match g.demand_all(demands) {
-        Ok(()) => Ok(own),
-        Err(fault) => Err(fault),
-    }
+    let table = fresh_vars(alloc, g, scheme.count)?;
+    let demands = copied_demands(alloc, scheme, given, &table)?;
+    let own = rest_placed(alloc, scheme, given.len(), &table)?;
+    g.demand_all(demands)?;
+    Ok(own)
 }

@@ -1,3 +1,4 @@
+use Rattle.abc_check.proofs.Answering.{if_ok_both}
 use Rattle.abc_check.proofs.KindVars.{compound_made, no_compound}
 use Rattle.abc_check.proofs.outers.compound_var.Goals as goal
 
@@ -6,4 +7,6 @@ returns-then-parts-lt2-clause-clash c = λ e. no_compound c.args.parts.now c.arg
 
 pub returns-clause-made : goal.returns-clause-made
 returns-clause-made c =
-    compound_made c.args.graph.now c.node_var.new.graph c.in_ok-a.a c.count-count.ensures.made c.in_ok-a.ensures.number c.args.parts.now c.in_ok-term.term (c.in_ok-term.ensures.node c.args.graph.now.count c.requires) c.in_ok-a.ensures.ok c.in_ok-term.ensures.term
+    if_ok_both c.node_var.result c.node_var.ensures.number c.node_var.ensures.ok
+    (λ a number is.
+    compound_made c.args.graph.now c.node_var.new.graph a c.count-count.ensures.made number c.args.parts.now c.in_ok-term.term (c.in_ok-term.ensures.node c.args.graph.now.count c.requires) is c.in_ok-term.ensures.term)

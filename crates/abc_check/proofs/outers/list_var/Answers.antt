@@ -1,6 +1,7 @@
 use Rattle.std.proofs.Common.{get_or, arith}
 use Rattle.std.proofs.lemmas.List.{get_or_default}
 use Rattle.abc_terms.specs.declared.term.VarId.{VarId}
+use Rattle.abc_check.proofs.Answering.{if_ok_both}
 use Rattle.abc_check.proofs.KindVars.{list_made}
 use Rattle.abc_check.proofs.outers.list_var.Goals as goal
 
@@ -11,5 +12,7 @@ returns-clause-made c =
     let one = c.if-parts-ne1.false in
     let none : VarId = record { 0 = 0 } in
     let e : VarId = get_or parts 0 none in
-    list_made c.args.graph.now c.node_var.new.graph c.in_ok-a.a c.count-count.ensures.made c.in_ok-a.ensures.number parts c.in_ok-term.term (c.in_ok-term.ensures.node n (c.requires 0 none (omega (arith, one)))) c.in_ok-a.ensures.ok
-    e one (get_or_default parts 0 none e (omega (arith, one))) c.in_ok-term.ensures.term
+    if_ok_both c.node_var.result c.node_var.ensures.number c.node_var.ensures.ok
+    (λ a number is.
+    list_made c.args.graph.now c.node_var.new.graph a c.count-count.ensures.made number parts c.in_ok-term.term (c.in_ok-term.ensures.node n (c.requires 0 none (omega (arith, one)))) is
+    e one (get_or_default parts 0 none e (omega (arith, one))) c.in_ok-term.ensures.term)

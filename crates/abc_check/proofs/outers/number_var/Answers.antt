@@ -1,5 +1,8 @@
+use Rattle.abc_check.proofs.Answering.{if_ok_both}
 use Rattle.abc_check.proofs.KindVars.{number_made}
 use Rattle.abc_check.proofs.outers.number_var.Goals as goal
 
 pub returns-clause-made : goal.returns-clause-made
-returns-clause-made c = number_made c.args.graph.now c.node_var.new.graph c.in_ok-a.a c.count-count.ensures.made c.in_ok-a.ensures.number c.in_ok-a.ensures.ok
+returns-clause-made c =
+    if_ok_both c.node_var.result c.node_var.ensures.number c.node_var.ensures.ok
+    (λ a number is. number_made c.args.graph.now c.node_var.new.graph a c.count-count.ensures.made number is)

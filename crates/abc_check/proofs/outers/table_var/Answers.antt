@@ -1,6 +1,7 @@
 use Rattle.std.proofs.Common.{get_or, arith}
 use Rattle.std.proofs.lemmas.List.{get_or_default}
 use Rattle.abc_terms.specs.declared.term.VarId.{VarId}
+use Rattle.abc_check.proofs.Answering.{if_ok_both}
 use Rattle.abc_check.proofs.KindVars.{table_made}
 use Rattle.abc_check.proofs.outers.table_var.Goals as goal
 
@@ -12,6 +13,8 @@ returns-clause-made c =
     let none : VarId = record { 0 = 0 } in
     let k : VarId = get_or parts 0 none in
     let e : VarId = get_or parts 1 none in
-    table_made c.args.graph.now c.node_var.new.graph c.in_ok-a.a c.count-count.ensures.made c.in_ok-a.ensures.number parts c.in_ok-term.term
-    (c.in_ok-term.ensures.node n (c.requires 0 none (omega (arith, two))) (c.requires 1 none (omega (arith, two)))) c.in_ok-a.ensures.ok
-    k e two (get_or_default parts 0 none k (omega (arith, two))) (get_or_default parts 1 none e (omega (arith, two))) c.in_ok-term.ensures.term
+    if_ok_both c.node_var.result c.node_var.ensures.number c.node_var.ensures.ok
+    (λ a number is.
+    table_made c.args.graph.now c.node_var.new.graph a c.count-count.ensures.made number parts c.in_ok-term.term
+    (c.in_ok-term.ensures.node n (c.requires 0 none (omega (arith, two))) (c.requires 1 none (omega (arith, two)))) is
+    k e two (get_or_default parts 0 none k (omega (arith, two))) (get_or_default parts 1 none e (omega (arith, two))) c.in_ok-term.ensures.term)

@@ -2,6 +2,7 @@ use Rattle.std.proofs.Common.{◌≡◌, ◌∙◌, ℕ, ◌+◌, ◌<◌, List,
 use Rattle.std.specs.Prelude.{Some, None, slice_get}
 use Rattle.std.proofs.lemmas.List.{length-append}
 use Rattle.std.proofs.lemmas.Option.{slice_get_within}
+use Rattle.std.proofs.lemmas.Result.{IfOk-weaker}
 use Rattle.abc_terms.specs.declared.term.VarId.{VarId}
 use Rattle.abc_value.specs.Forms.{Form}
 use Rattle.abc_value.specs.FormCode.{depth_of}
@@ -18,11 +19,14 @@ shape_var-outer_var-requires t c = slice_made c.args.shape.now c.kind.result c.a
 
 pub shape_var-returns-clause-made : goal.shape_var-returns-clause-made
 shape_var-returns-clause-made t c =
-    outer_whole c.args.shape.now c.kind.result c.args.graph.now c.part_vars.new.graph c.in_ok-parts.parts.items c.deref.result.now c.kind.ensures c.deref.ensures.value c.in_ok-parts.ensures.made c.outer_var.new.graph c.in_ok-a.a c.in_ok-a.ensures.made
+    IfOk-weaker c.outer_var.result _ _
+    (λ a made.
+    outer_whole c.args.shape.now c.kind.result c.args.graph.now c.part_vars.new.graph c.in_ok-parts.parts.items c.deref.result.now c.kind.ensures c.deref.ensures.value c.in_ok-parts.ensures.made c.outer_var.new.graph a made)
+    c.outer_var.ensures.made
 
-pub shape_var-returns-in_err-a-clause-clash : goal.shape_var-returns-in_err-a-clause-clash
-shape_var-returns-in_err-a-clause-clash t c = λ e.
-    never_outer c.args.shape.now c.kind.result c.args.graph.now c.part_vars.new.graph c.in_ok-parts.parts.items c.deref.result.now c.kind.ensures c.deref.ensures.value c.in_ok-parts.ensures.made (c.outer_var.ensures.clash (clash_told c.outer_var.result c.from_residual-in_err-a.result c.in_err-a.field-0.0 c.in_err-a.was c.from_residual-in_err-a.ensures e))
+pub shape_var-returns-clause-clash : goal.shape_var-returns-clause-clash
+shape_var-returns-clause-clash t c = λ e.
+    never_outer c.args.shape.now c.kind.result c.args.graph.now c.part_vars.new.graph c.in_ok-parts.parts.items c.deref.result.now c.kind.ensures c.deref.ensures.value c.in_ok-parts.ensures.made (c.outer_var.ensures.clash e)
 
 pub shape_var-returns-in_err-parts-clause-clash : goal.shape_var-returns-in_err-parts-clause-clash
 shape_var-returns-in_err-parts-clause-clash t c = λ e. never_parts c.args.shape.now c.args.graph.now (c.part_vars.ensures.clash (clash_told c.part_vars.result c.from_residual.result c.in_err-parts.field-0.0 c.in_err-parts.was c.from_residual.ensures e))
