@@ -136,16 +136,17 @@ fn have_range(x: &Value, y: &Value) -> bool
     }
 }
 
+/// Prints the list from the one to the other, or the fault that both calls tell. Only want of memory is told by one alone.
 fn range(rt: &HostRuntime, x: &Value, y: &Value) -> Result<(), Fault> {
     if !have_range(x, y) {
         return say(rt, "Wrong");
     }
-    if let Err(fault) = Value::check_range(x, y) {
-        return print_answer(rt, Err(RunFault::from(fault)));
-    }
+    let checked = Value::check_range(x, y);
     match Value::range(rt.alloc(), x, y) {
-        Ok(all) => print_value(rt, &all),
-        Err(fault) => print_answer(rt, Err(RunFault::from(fault))),
+        Ok(all) if checked.is_ok() => print_value(rt, &all),
+        Err(fault) if checked == Err(fault) => print_answer(rt, Err(RunFault::from(fault))),
+        Err(ValueFault::Memory) => Err(Fault::Memory),
+        _ => say(rt, "check_range and range differ"),
     }
 }
 

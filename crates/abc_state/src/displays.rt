@@ -202,7 +202,9 @@ fn value_list(alloc: Global, value: &Value) -> Result<Value, ValueFault>
 /// The list of the elements of a range, which are made in order. Ends that make no range have none: `with_range` let none in.
 fn range_list(alloc: Global, first: &Value, last: &Value) -> Result<Value, ValueFault>
     ensures value { IfOk result (λ v. v ≡ list (trees (in_order (range_elements first.now last.now)))) }
+    ensures parts { IfOk result (λ v. parts_of v ≡ range_elements first.now last.now) }
     ensures sizes { IsMakingOf (list (trees (in_order (range_elements first.now last.now)))) result }
+    ensures err { IfErr result (λ f. f ≡ ValueFault.Memory) }
 {
     if !have_range(first, last) {
         return Ok(Value::empty(alloc));
@@ -239,7 +241,7 @@ fn add_filler(alloc: Global, all: &mut Vec<Value>, filler: &Filler) -> Result<()
     }
 }
 
-/// Adds the elements of a range. Ends that make no range add nothing: `with_range` let none in.
+/// Adds the elements of a range.
 fn add_range(
     alloc: Global,
     all: &mut Vec<Value>,
@@ -250,14 +252,8 @@ fn add_range(
     ensures fits { length all.old.items ≤ MOST_ELEMENTS → OnOk result (length all.new.items ≤ MOST_ELEMENTS) }
     ensures err { IfErr result (IsPast (all.old.items ++ range_elements first.now last.now)) }
 {
-    if !have_range(first, last) {
-        return Ok(());
-    }
-    match Value::range(alloc, first, last) {
-        Ok(list) => add_parts(all, &list),
-        Err(ValueFault::Memory) => Err(ValueFault::Memory),
-        Err(_) => Ok(()),
-    }
+    let list = range_list(alloc, first, last)?;
+    add_parts(all, &list)
 }
 
 /// Adds elements that equal those of a list.
