@@ -23,10 +23,10 @@ pub const FIRST_SLOT: usize = NUMBER_BYTES;
 pub const START_IN_SLOT: usize = GATE_BYTES + NUMBER_BYTES;
 
 /// What a slot has behind its gate: its generation and the start of its region.
-pub const SLOT_NUMBERS: usize = 2 * NUMBER_BYTES;
+pub const SLOT_NUMBERS_BYTES: usize = 2 * NUMBER_BYTES;
 
 /// The place of the second slot, behind the first.
-pub const SECOND_SLOT: usize = FIRST_SLOT + GATE_BYTES + SLOT_NUMBERS;
+pub const SECOND_SLOT: usize = FIRST_SLOT + GATE_BYTES + SLOT_NUMBERS_BYTES;
 
 /// The gate of a record is open where it is this byte, and closed where it is another.
 pub const OPEN: u8 = 1;

@@ -4,7 +4,7 @@ ghost use Rattle.abc_journal.specs.Image.{word_at as word_of, slot_version as ve
 ghost use Rattle.abc_journal.specs.Checkpoint.{other_place as place_of_other, slot_bytes as bytes_of_slot};
 
 use crate::format::{
-    FIRST_SLOT, GATE_BYTES, HEAD_BYTES, MAGIC, NUMBER_BYTES, SECOND_SLOT, SLOT_NUMBERS,
+    FIRST_SLOT, GATE_BYTES, HEAD_BYTES, MAGIC, NUMBER_BYTES, SECOND_SLOT, SLOT_NUMBERS_BYTES,
     START_IN_SLOT, VERSION,
 };
 use crate::layout::Live;
@@ -70,10 +70,10 @@ pub(crate) fn other_place(slot: u8) -> u64
 }
 
 /// What stands behind the gate of a slot: a generation and the start of a region.
-pub(crate) fn slot_bytes(generation: u64, start: u64) -> [u8; SLOT_NUMBERS]
+pub(crate) fn slot_bytes(generation: u64, start: u64) -> [u8; SLOT_NUMBERS_BYTES]
     ensures { result ≡ bytes_of_slot generation start }
 {
-    let mut bytes = [0; SLOT_NUMBERS];
+    let mut bytes = [0; SLOT_NUMBERS_BYTES];
     BigEndian::write_u64(&mut bytes, generation);
     BigEndian::write_u64(&mut bytes[NUMBER_BYTES..], start);
     bytes

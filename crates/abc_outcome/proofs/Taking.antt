@@ -31,7 +31,7 @@ use Rattle.abc_outcome.specs.declared.answering.AnswerFault.TheVariants.{Input, 
 use Rattle.abc_outcome.specs.declared.commands.Left.{Left}
 use Rattle.abc_outcome.specs.Outcome.{Behind}
 use Rattle.abc_outcome.specs.inner.Running.{IsLeft, RanTo, RunAsks, RunWants, Runs}
-use Rattle.abc_outcome.specs.inner.Steps.{fault_of}
+use Rattle.abc_outcome.specs.Stops.{fault_of}
 use Rattle.abc_outcome.proofs.Lifted.{stands_so}
 use Rattle.abc_outcome.proofs.Steady.{lines_left}
 use Rattle.abc_outcome.proofs.Suffixes.{suffix_of}

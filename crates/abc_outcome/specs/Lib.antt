@@ -7,4 +7,5 @@ pub mod Outcome
 pub mod Answers
 pub mod Checks
 pub mod Laws
+pub mod Stops
 pub mod inner

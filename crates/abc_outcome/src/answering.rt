@@ -64,7 +64,7 @@ impl From<OutOfMemory> for AnswerFault {
 
 impl From<RunStop> for AnswerFault {
     ghost use Rattle.std.specs.Prelude.{◌≡◌};
-    ghost use Rattle.abc_outcome.specs.inner.Steps.{fault_of};
+    ghost use Rattle.abc_outcome.specs.Stops.{fault_of};
 
     ghost from_gives = { λ stop fault. fault ≡ fault_of stop };
 

@@ -125,7 +125,7 @@ chain setting (line ∷ above) =
     standing line (role_by setting (last above) (left line.indent (chain setting above)) line)
     (round_by (role_by setting (last above) (left line.indent (chain setting above)) line) (left line.indent (chain setting above)))
 
--- the lines round a line of indentation n that is no refinement heading
+-- the lines round a line of indentation n, unless it is found to be a refinement heading, round which none stands
 abbrev pub around : Setting → ℕ → List Edges → List Standing
 around setting n above = left n (chain setting above)
 

@@ -67,8 +67,8 @@ impl Around {
         self.lines.last().copied()
     }
 
-    /// Leaves those that are not deeper, from the innermost such on.
-    pub(crate) fn leave_deeper(&mut self, indent: u32)
+    /// Drops the innermost lines, as long as they are deeper.
+    pub(crate) fn drop_deeper(&mut self, indent: u32)
         ensures { self.new ≡ not_deeper indent self.old }
     {
         while let Some(line) = self.innermost() {
@@ -79,8 +79,8 @@ impl Around {
         }
     }
 
-    /// Leaves those that are less deep, from the innermost such on.
-    pub(crate) fn leave(&mut self, indent: u32)
+    /// Drops the innermost lines, as long as they begin at this indentation or are deeper.
+    pub(crate) fn drop_from(&mut self, indent: u32)
         ensures { self.new ≡ left indent self.old }
     {
         while let Some(line) = self.innermost() {
@@ -91,8 +91,8 @@ impl Around {
         }
     }
 
-    /// Leaves all of them where these are to stand round a refinement heading.
-    pub(crate) fn leave_at(&mut self, role: Role)
+    /// Drops all lines where the role is that of a refinement heading, round which none stands.
+    pub(crate) fn clear_at_heading(&mut self, role: Role)
         ensures { self.new ≡ round_by role self.old }
     {
         match role {

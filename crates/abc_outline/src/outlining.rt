@@ -171,11 +171,11 @@ impl Outline {
         ensures place { (setting : Setting) (above : List Edges) → self.old ≡ outline_of setting above → IfOk result (λ place. place ≡ place_of setting above line) }
         ensures above { (setting : Setting) (above : List Edges) → self.old ≡ outline_of setting above → IfOk result (λ place. self.new ≡ outline_of setting (line ∷ above)) }
     {
-        self.around.leave_deeper(line.indent);
+        self.around.drop_deeper(line.indent);
         let level = self.around.begins_at(line.indent);
-        self.around.leave(line.indent);
+        self.around.drop_from(line.indent);
         let role = role_by(self.setting, self.before, &self.around, line);
-        self.around.leave_at(role);
+        self.around.clear_at_heading(role);
         let suites = self.around.suites();
         let section = section_by(role, line, self.section);
         let place = Place {

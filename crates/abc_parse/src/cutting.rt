@@ -40,7 +40,7 @@ fn kind_by_number(kinds: &[Option<RefinementKind>], number: Option<u32>) -> Refi
     }
 }
 
-/// The suite of a heading over all of these parts, which leave.
+/// The suite of a heading over all of these parts, which are taken out.
 pub(crate) fn suite(
     alloc: Global,
     line: u32,

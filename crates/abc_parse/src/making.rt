@@ -59,7 +59,7 @@ fn over_suite(line: u32, head: Head, suite: Suite) -> Result<Part, Unmade>
     }
 }
 
-/// What a heading makes of the parts that are deeper, which leave.
+/// What a heading makes of the parts that are deeper, which are taken out.
 fn grown(
     alloc: Global,
     line: u32,

@@ -95,7 +95,7 @@ impl Roots {
         Some(root.part)
     }
 
-    /// The commands that are deeper, where all that are deeper are commands or nothing. They leave.
+    /// The commands that are deeper, where all that are deeper are commands or nothing. They are taken out.
     pub(crate) fn commands(&mut self, alloc: Global, indent: u32) -> Result<Suite, Unmade>
         ensures suite { Gives result (commands (taken indent self.old)) }
         ensures rest { OnOk result (self.new ≡ kept indent self.old) }
@@ -107,7 +107,7 @@ impl Roots {
         Ok(suite)
     }
 
-    /// The alternatives that are deeper, where all that are deeper are alternatives. They leave.
+    /// The alternatives that are deeper, where all that are deeper are alternatives. They are taken out.
     pub(crate) fn alternatives(
         &mut self,
         alloc: Global,
@@ -123,7 +123,7 @@ impl Roots {
         Ok(ways)
     }
 
-    /// All commands, where all parts are commands or nothing. They leave.
+    /// All commands, where all parts are commands or nothing. They are taken out.
     pub(crate) fn all_commands(&mut self, alloc: Global) -> Result<Suite, Unmade>
         ensures suite { Gives result (commands (parts_of self.old)) }
         ensures rest { OnOk result (self.new ≡ []) }

@@ -15,8 +15,6 @@ use Rattle.abc_record.specs.Kept.{IsKeptText}
 use Rattle.abc_inquiry.specs.declared.answering.Answered.{Answered}
 use Rattle.abc_inquiry.specs.declared.answering.Answered.TheVariants.{Drops}
 use Rattle.abc_inquiry.specs.Laws.{CanBeSpelled}
-use Rattle.abc_machine.specs.declared.outcome.RunStop.{RunStop}
-use Rattle.abc_machine.specs.declared.outcome.RunStop.TheVariants as broken
 use Rattle.abc_outcome.specs.declared.answering.Answer.{Answer}
 use Rattle.abc_outcome.specs.declared.answering.AnswerFault.{AnswerFault}
 use Rattle.abc_outcome.specs.declared.answering.AnswerFault.TheVariants as stops
@@ -88,12 +86,6 @@ abbrev pub Hinders : Result (Option Answer) AnswerFault → Type 0
 Hinders (Ok None) = Unit {0}
 Hinders (Ok (Some answer)) = answer.quit ≡ false
 Hinders (Err fault) = fault ≡ stops.Memory
-
--- why an item is not answered whose run was broken off
-abbrev pub fault_of : RunStop → AnswerFault
-fault_of broken.Input = stops.Input
-fault_of broken.Long = stops.Long
-fault_of broken.Memory = stops.Memory
 
 -- What is answered after a commit: what was written, and the reply line for that.
 abbrev pub Closes : {T : Type 0} → List ℕ → List ℕ → List ℕ → List ℕ → Bool → Result T CommitFault → Result Answer AnswerFault → Type 0

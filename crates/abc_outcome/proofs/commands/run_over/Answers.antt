@@ -9,7 +9,7 @@ use Rattle.abc_reader.proofs.Lending.{calls_keep, calls_read}
 use Rattle.abc_outcome.specs.declared.answering.AnswerFault.{AnswerFault}
 use Rattle.abc_outcome.specs.declared.commands.Left.{Left}
 use Rattle.abc_outcome.specs.inner.Running.{Runs}
-use Rattle.abc_outcome.specs.inner.Steps.{fault_of}
+use Rattle.abc_outcome.specs.Stops.{fault_of}
 use Rattle.abc_outcome.proofs.Taking.{runs_broken, runs_ended}
 use Rattle.abc_outcome.proofs.commands.run_over.Given.{Over}
 use Rattle.abc_outcome.proofs.commands.run_over.Goals.{After-is_reader}

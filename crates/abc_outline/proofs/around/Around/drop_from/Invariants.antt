@@ -1,6 +1,6 @@
 use Rattle.std.proofs.Common.{◌≡◌, length}
 use Rattle.abc_outline.specs.Outline.{left}
-use Rattle.abc_outline.proofs.around.Around.leave.Given as goal
+use Rattle.abc_outline.proofs.around.Around.drop_from.Given as goal
 
 abbrev pub invariant-loop-line : goal.invariant-loop-line
 invariant-loop-line l = left l.fn.indent l.fn.self ≡ left l.fn.indent l.self

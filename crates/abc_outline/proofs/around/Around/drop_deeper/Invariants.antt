@@ -1,6 +1,6 @@
 use Rattle.std.proofs.Common.{◌≡◌, length}
 use Rattle.abc_outline.specs.Outline.{not_deeper}
-use Rattle.abc_outline.proofs.around.Around.leave_deeper.Given as goal
+use Rattle.abc_outline.proofs.around.Around.drop_deeper.Given as goal
 
 abbrev pub invariant-loop-line : goal.invariant-loop-line
 invariant-loop-line l = not_deeper l.fn.indent l.fn.self ≡ not_deeper l.fn.indent l.self
