@@ -1,0 +1,13 @@
+#!/bin/sh
+# queue.sh LIST: tries the edits that LIST names, a line `BASE CRATE` each; LIST may grow meanwhile. A line STOP ends it.
+list=$1; n=1
+while :; do
+  line=$(sed -n ${n}p $list)
+  [ -z "$line" ] && { sleep 5; continue; }
+  [ "$line" = STOP ] && break
+  n=$((n+1)); set -- $line; base=$1; c=$2; shift 2
+  echo "== $c $base $(date +%T)"
+  (cd CLONES/edits; flock HANDOFF/edits/one.lock python3 DRAFTS/stand-ins/give.py CLONES/edits) | head -1
+  flock HANDOFF/edits/one.lock setsid -w sh -c 'echo -4 > /proc/$$/autogroup; exec "$@"' x python3 CLONES/editsools/edits.py $c $base/$c "$@"
+done
+echo QUEUE DONE
