@@ -1,1 +1,0 @@
-while [ ! -e HANDOFF/edits/STOP ]; do python3 CLONES/editsools/notes.py; sleep 60; done
