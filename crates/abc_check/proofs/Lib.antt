@@ -18,5 +18,6 @@ pub mod Offering
 pub mod OwnValues
 pub mod PartVars
 pub mod Putting
+mod Rows
 pub mod Somes
 pub mod Taking

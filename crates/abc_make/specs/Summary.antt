@@ -26,7 +26,7 @@ begins word reply = starts_with nat_eq (behind_number (reply_line reply)) word
 abbrev pub ends_in_ok : List ℕ → Bool
 ends_in_ok reply = ends_with nat_eq reply (codes "ok\n")
 
--- how many replies there are, how many of them tell of success, of a unit and of a fault, and how many bytes they have
+-- how many replies there are, how many of them end in `ok`, tell of a unit and of a fault, and how many bytes they have
 pub record Count : Type 0 where
   pub items : ℕ
   pub oks : ℕ

@@ -3,7 +3,8 @@ ghost use Rattle.std.specs.Prelude.{◌≡◌, ◌<◌, ◌==◌, ◌+◌, not, 
 ghost use Rattle.std.specs.List.{prefix_len};
 ghost use Rattle.abc_make.specs.Summary.{reply_line, line_from, behind_number};
 
-/// The line from which a reply goes on behind the byte at this place.
+/// The last line of a reply as far as the byte at this place tells: what stands behind it where it is an LF and not the last byte, else
+/// `line`.
 fn line_at<'a>(reply: &'a [u8], line: &'a [u8], place: usize) -> &'a [u8]
     requires { place < length reply.now }
     ensures { result.now ≡ line_from (get_or reply.entry.now place 0) (drop (place + 1) reply.entry.now) line.entry.now }

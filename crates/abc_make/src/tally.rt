@@ -36,14 +36,14 @@ fn more(count: u64, holds: bool) -> u64
     if holds { count + 1 } else { count }
 }
 
-/// Whether a reply tells so behind its number.
+/// Whether the last line of a reply goes on with this word behind its number.
 fn begins_with(reply: &[u8], word: &[u8]) -> bool
     ensures { result ≡ begins word.now reply.now }
 {
     answer_in(last_line(reply)).starts_with(word)
 }
 
-/// Whether a reply tells of success.
+/// Whether a reply ends in `ok`: that of a command that ran does, and any whose template at its end does.
 fn is_ok(reply: &[u8]) -> bool
     ensures { result ≡ ends_in_ok reply.now }
 {

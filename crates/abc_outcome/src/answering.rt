@@ -33,6 +33,7 @@ use std::alloc::Global;
 /// What is answered to an item.
 #[derive(Debug, Drop)]
 pub struct Answer {
+    /// What it wrote or shows, and its reply line, each line with its LF.
     pub reply: Text,
     /// The session ends with this item.
     pub quit: bool,
@@ -86,7 +87,7 @@ impl From<RunStop> for AnswerFault {
 /// Errors: `StoreFault` where a call of the host on the store failed; then the store isn't sound any more, and its image opens to
 /// the workspace before the item or after it. `Input` where a read failed, and `Long` where as many bytes as the bound were
 /// taken, each while the item wants a line; and `Memory`: they change nothing in the store, and the reader isn't used again then.
-/// After every answer but `StoreFault` the checker knows the units of the store.
+/// After every answer but `StoreFault` the checker, if there is one, knows the units of the store.
 pub fn answer_item<H: Host>(
     alloc: Global,
     store: &mut Store,

@@ -117,8 +117,9 @@ pub(crate) fn keep_targets<H: Host>(
     keep(alloc, store, host, changes, ending, k)
 }
 
-/// Types fit the targets that a command left: no input leads one that was accepted to others. Where the host tells nothing of its
-/// input nothing is known of the run, so those that have changed are checked; others are told as want of memory.
+/// Makes sure that types fit the targets that a command left. That a command which was accepted leaves such targets is known over a
+/// host that tells its input alone; so, wherever a target has changed, all are checked. If types didn't fit them, that would be
+/// told as want of memory.
 fn assure(
     alloc: Global,
     store: &Store,

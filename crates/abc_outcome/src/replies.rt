@@ -102,7 +102,7 @@ fn is_unended(bytes: &[u8]) -> bool
     }
 }
 
-/// The reply line of a command that ran.
+/// The reply line of a command that ran, or of a line that asks and was answered.
 pub(crate) fn ok_line(alloc: Global, k: u64) -> Result<Vec<u8>, OutOfMemory>
     ensures { IfOk result (λ line. line.items ≡ ok_line k) }
 {
@@ -119,7 +119,7 @@ pub(crate) fn unit_line(alloc: Global, k: u64, template: &[u8]) -> Result<Vec<u8
     Ok(line)
 }
 
-/// The reply line of one that waits for a missing one.
+/// The reply line of a unit that was accepted and waits for a missing one.
 pub(crate) fn waiting_line(
     alloc: Global,
     k: u64,

@@ -20,8 +20,7 @@ pub(crate) fn have_spelling(changes: &[Change]) -> bool
     true
 }
 
-/// Whether the name or the lines in a change can be spelled. A unit is taken out by a line that asks for it, and by no such
-/// change.
+/// Whether the name or the lines in a change can be spelled. A command takes no unit out, so a change that does is answered false.
 fn has_spelling(change: &Change) -> bool
     ensures { result ≡ has_spelling change.now }
 {

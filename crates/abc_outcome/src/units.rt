@@ -24,7 +24,8 @@ use abc_tree::{Unit, Units};
 use std::alloc::Global;
 use std::slice;
 
-/// Answers a unit, which its own lines spell. What the type check knew of the units is forgotten, since it may be kept.
+/// Answers a unit, which its own lines spell. Where types fit it, what the type check knew of the units is forgotten, since the unit
+/// may then be kept.
 pub(crate) fn answer_unit<H: Host>(
     alloc: Global,
     store: &mut Store,

@@ -17,7 +17,7 @@ const PIECE_BYTES: usize = 65_536;
 
 const LF: u8 = 10;
 
-/// The bytes that were taken from the input, those of them that are not yet used, and the bound on them.
+/// The piece that was read last, whose bytes `from..to` are not yet used; how many bytes were taken in all, and how many may be.
 #[derive(Drop)]
 pub(crate) struct LineReader {
     alloc: Global,

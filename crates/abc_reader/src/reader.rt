@@ -11,7 +11,6 @@ use abc_num::{ItemLines, OutOfMemory, RawLine};
 use abc_outside::{Host, LineStop};
 use std::alloc::Global;
 use std::marker::Model;
-use std::mem;
 
 /// Reads an input line by line. A line that ends the item before it is looked at and not taken, so that it is still to come.
 #[derive(Drop)]
@@ -93,7 +92,7 @@ impl Reader {
         ensures stands { StandsAt H.tells_input self.new (H.now host.new) }
         ensures reads_on { ReadsOn H.tells_input H.tells_said H.now H.clock H.stopped self.old self.new host.old host.new }
     {
-        match mem::replace(&mut self.ahead, None) {
+        match self.ahead.take() {
             Some(line) => Ok(Some(line)),
             None => self.lines.next(host),
         }

@@ -9,7 +9,8 @@ use abc_outside::{Host, LineStop, Lines};
 
 /// A reader and the host that it reads from, lent to a function over any [`Lines`].
 ///
-/// Its inputs: the real one, and for each count of bytes that many of it, of an input that goes on behind them.
+/// Its inputs, as [`Lines`] speaks of them: the real one, or, for each count of bytes that are not yet used, the first so many bytes
+/// of it, behind which the input goes on in any way.
 #[derive(Drop)]
 pub struct ReaderLines<'a, H: Host> {
     pub reader: &'a mut Reader,

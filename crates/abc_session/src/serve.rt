@@ -93,7 +93,8 @@ impl From<Failed> for ServeStop {
 /// item to item.
 ///
 /// Errors: those of `answer_item`, and `SinkFault` where the reply could not be said whole; then it is not counted. After each
-/// but `StoreFault` the image holds the store, and the checker knows its units, so that items may be served again.
+/// but `StoreFault` the image holds the store, and the checker, if there is one, knows its units. After `Input`, `Long` and
+/// `Memory` the reader isn't used again: what it took from the input stays taken.
 pub fn serve_item<H: Host>(
     alloc: Global,
     store: &mut Store,

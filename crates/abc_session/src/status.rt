@@ -1,16 +1,16 @@
 //! The statuses of a run.
 ghost use Rattle.abc_session.specs.Status.{AreNumbered};
 
-/// The input was read to its end, and everything was said.
+/// The input was read to its end or to QUIT, or it was a made one, and everything was said.
 pub const COMPLETE: u8 = 0;
 
 /// The words don't read. Nothing was said or changed.
 pub const USAGE: u8 = 2;
 
-/// A read of the input failed.
+/// The input could not be opened, or a read of it failed.
 pub const INPUT_FAULT: u8 = 3;
 
-/// A call on the store failed.
+/// The store could not be opened, or a call on it failed.
 pub const STORE_FAULT: u8 = 4;
 
 /// What was to be said could not be said.

@@ -718,7 +718,7 @@ fn a_summary_is_cut_short(rt: HostRuntime) -> Result<(), Fail> {
     Ok(())
 }
 
-/// Runs over files of these names, the input with these bytes.
+/// Runs over the files run.store and run.input, the second with these bytes.
 fn ran_on_files(rt: HostRuntime, input: &str) -> Result<u8, Fail> {
     fs::write(&rt, "run.input", input)?;
     let words = ["run.store", "--from", "run.input"];

@@ -6,4 +6,5 @@ pub mod Spelled
 pub mod Wholes
 pub mod Images
 mod Stepping
+mod Leaving
 mod Rows

@@ -82,7 +82,8 @@ abbrev pub payloads_with_due : Bounds → Layout → List ℕ → List (List ℕ
 payloads_with_due bounds layout checkpoint payloads =
     if is_due bounds layout then payloads_tried (checkpointed bounds layout (length checkpoint)) checkpoint payloads else payloads
 
--- the payloads with the record where it was added, and with the checkpoint that is due after it
+-- the payloads once the record was tried: it behind those that were there, or the checkpoint that is due then, alone, where it was placed; where the
+-- record wasn't added, those that were there
 abbrev pub payloads_recorded : Bounds → Result Layout Full → List ℕ → List ℕ → List (List ℕ) → List (List ℕ)
 payloads_recorded bounds (Ok added) payload after payloads = payloads_with_due bounds added after (payloads ++ payload ∷ [])
 payloads_recorded bounds (Err full) payload after payloads = payloads

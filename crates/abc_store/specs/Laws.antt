@@ -1,7 +1,10 @@
 -- What holds of images and workspaces.
-use Rattle.std.specs.Prelude.{◌≡◌, ℕ, true, List, Some, Result}
+use Rattle.std.specs.Prelude.{◌≡◌, ◌⊎◌, ℕ, true, List, [], ◌∷◌, ◌++◌, Some, Result, Ok, Err}
 use Rattle.abc_outside.specs.Stop.{Extends}
+use Rattle.abc_journal.specs.declared.layout.Bounds.{Bounds}
 use Rattle.abc_journal.specs.Image.{settled_image}
+use Rattle.abc_record.specs.declared.change.Change.{Change}
+use Rattle.abc_record.specs.Spelling.{spelled}
 use Rattle.abc_frames.specs.Maps.{AreRising, AreRegular}
 use Rattle.abc_tree.specs.Units.{AreRising as AreInOrder}
 use Rattle.abc_num.specs.declared.lines.Line.{Line}
@@ -12,7 +15,7 @@ use Rattle.abc_tree.specs.RegularItems.{is_regular_unit}
 use Rattle.abc_meaning.specs.Regular.{IsNumbered}
 use Rattle.abc_store.specs.Workspace.{Workspace, empty, changed_by, changes_between, checkpoint_of, without_named, IsWithinLimits, IsWellTyped, AreNamed, IsKeptUnit, AreKeptUnits, unit_of_lines}
 use Rattle.abc_store.specs.Opening.{LeadsTo, Opens, OpensTo}
-use Rattle.abc_store.specs.Commit.{Work, Holds}
+use Rattle.abc_store.specs.Commit.{Work, Holds, Refusal, too_large, store_full, stored, payloads_after}
 
 -- an image opens to one workspace, or is wrong at one place
 abbrev pub OpensToOne : Type 0
@@ -47,3 +50,17 @@ KeptUnitsAreRegular = (unit : Routine) → IsKeptUnit unit → (is_regular_unit 
 -- without a unit types fit what they fitted with it
 abbrev pub DroppingStaysTyped : Type 0
 DroppingStaysTyped = (kept : Workspace) (template : List ℕ) → AreInOrder kept.units → IsWellTyped kept → IsWellTyped (record { targets = kept.targets; units = without_named template kept.units })
+
+-- What a commit of some changes may leave in an image, by what came of it. Where they are kept: their record behind what was there, their record behind
+-- the checkpoint of the workspace before it, or the checkpoint of the later one alone. Where they are too large: what was there. Where the store is full:
+-- that, or the checkpoint of the workspace before it alone. Which of these it is, `payloads_after` says
+abbrev pub MayBeLeft : Result Work Refusal → List (List ℕ) → List ℕ → List ℕ → List ℕ → List (List ℕ) → Type 0
+MayBeLeft (Ok work) payloads written before after left = (left ≡ payloads ++ written ∷ []) ⊎ (left ≡ before ∷ written ∷ []) ⊎ (left ≡ after ∷ [])
+MayBeLeft (Err (too_large bytes)) payloads written before after left = left ≡ payloads
+MayBeLeft (Err (store_full full)) payloads written before after left = (left ≡ payloads) ⊎ (left ≡ before ∷ [])
+
+-- a commit of some changes leaves no other payloads
+abbrev pub PayloadsAreLeft : Type 0
+PayloadsAreLeft = (bounds : Bounds) (work : Work) (change : Change) (changes : List Change) (later : Workspace) (payloads : List (List ℕ))
+    → MayBeLeft (stored bounds work (change ∷ changes) later) payloads (spelled (change ∷ changes)) (checkpoint_of work.kept) (checkpoint_of later)
+    (payloads_after bounds work (change ∷ changes) later payloads)

@@ -8,8 +8,8 @@ ghost use Rattle.abc_store.specs.inner.Steps.{may_be_due as may_be_due_in};
 use abc_journal::format::RECORD_EXTRA;
 use abc_journal::{Journal, Layout};
 
-/// Whether a checkpoint is due: the live region, its first payload included, is as long as the bound on checkpoints and four times that
-/// payload.
+/// Whether a checkpoint is due: the live region, its first payload included, is at least as long as the bound on checkpoints and four
+/// times that payload together. The payload counts where the region's generation is above 1.
 pub(crate) fn is_due(layout: Layout, checkpoint: u64) -> bool
     ensures { (bounds : Bounds) → bounds.checkpoint ≡ checkpoint → result ≡ is_due_in bounds layout }
 {

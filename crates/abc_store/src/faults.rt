@@ -1,8 +1,9 @@
-//! Why changes are not kept.
+//! The faults of a commit.
 use abc_journal::AppendFault;
 use abc_num::OutOfMemory;
 use thiserror::Error;
 
+/// Why changes are not kept.
 #[derive(Clone, Copy, Debug, PartialEq, Eq, Error)]
 pub enum CommitFault {
     /// A call on the store failed. The store is not sound any more.

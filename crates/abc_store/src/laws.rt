@@ -1,5 +1,5 @@
 //! Laws of images and workspaces, for the crates above.
-ghost use Rattle.abc_store.specs.Laws.{OpensToOne, LongerOpensToo, SettledOpensToo, CheckpointsHoldAll, ChangesLeadThere, UnitsAreSet, KeptUnitsAreRegular, DroppingStaysTyped};
+ghost use Rattle.abc_store.specs.Laws.{OpensToOne, LongerOpensToo, SettledOpensToo, CheckpointsHoldAll, ChangesLeadThere, UnitsAreSet, KeptUnitsAreRegular, DroppingStaysTyped, PayloadsAreLeft};
 
 use abc_fewer::kept_units_stay_typable;
 use abc_parse::{computed_item, numbered_items, regular_items, unit_alone};
@@ -43,3 +43,10 @@ pub fn dropping_stays_typed()
 {
     kept_units_stay_typable();
 }
+
+/// A commit of some changes leaves, where they are kept, what was there and its record, the checkpoint of the workspace before it and
+/// its record, or the checkpoint of the later one alone; where they are too large, what was there; where the store is full, that, or
+/// the checkpoint of the workspace before it alone.
+pub fn payloads_are_left()
+    ensures { PayloadsAreLeft }
+{}

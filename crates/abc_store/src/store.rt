@@ -21,7 +21,7 @@ use crate::plan::{Plan, prepare};
 use crate::steps::write_all;
 use crate::whole::as_changes;
 use abc_frames::Targets;
-use abc_journal::{BeginFault, Bounds, Journal, Layout};
+use abc_journal::{BeginFault, Bounds, Journal};
 use abc_num::OutOfMemory;
 use abc_num::limits::MOST_RECORD_BYTES;
 use abc_outside::Host;
@@ -160,20 +160,6 @@ impl Store {
     {
         let before = self.contents.targets().keep()?;
         as_changes(self.alloc, working.changes(&before)?)
-    }
-
-    /// Where the workspace stands in the store.
-    pub fn layout(&self) -> Layout
-        ensures { result ≡ self.now.layout }
-    {
-        self.journal.layout()
-    }
-
-    /// Whether the store may be used: no call of it answered StoreFault.
-    pub fn sound(&self) -> bool
-        ensures { result ≡ self.now.sound }
-    {
-        self.journal.sound()
     }
 
     /// Keeps these changes, all of them or none. The workspace with them is within the limits of a store, and types fit it. Once

@@ -54,32 +54,26 @@ fn steps_of(word: Option<&str>) -> Option<u64>
 fn run_on<'a>(store: &'a str, input: Option<&'a str>, steps: Option<&'a str>) -> Option<Request<'a>>
     ensures { option_map asked_of result ≡ option_map (on_store store.entry.now (option_map (λ name. name.now) input.entry)) (steps_asked (option_map (λ word. word.now) steps.entry)) }
 {
-    match steps_of(steps) {
-        Some(steps) => Some(Request::Run {
-            store,
-            input,
-            steps,
-        }),
-        None => None,
-    }
+    let steps = steps_of(steps)?;
+    Some(Request::Run {
+        store,
+        input,
+        steps,
+    })
 }
 
 /// A run on a made input.
 fn run_made<'a>(count: &'a str, steps: Option<&'a str>) -> Option<Request<'a>>
     ensures { option_map asked_of result ≡ made_with (made_asked count.entry.now) (steps_asked (option_map (λ word. word.now) steps.entry)) }
 {
-    match (
-        number_of(
-            count,
-            MADE_DIGITS,
-            u64::from(LEAST_MADE),
-            u64::from(MOST_MADE),
-        ),
-        steps_of(steps),
-    ) {
-        (Some(count), Some(steps)) => Some(Request::Make { count, steps }),
-        _ => None,
-    }
+    let count = number_of(
+        count,
+        MADE_DIGITS,
+        u64::from(LEAST_MADE),
+        u64::from(MOST_MADE),
+    )?;
+    let steps = steps_of(steps)?;
+    Some(Request::Make { count, steps })
 }
 
 /// What the values of the store, of `--from`, of `--make` and of `--steps` ask for.

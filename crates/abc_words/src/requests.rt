@@ -9,14 +9,14 @@ pub enum Request<'a> {
         store: &'a str,
         /// The file that the input is read from; standard input where there is none.
         input: Option<&'a str>,
-        /// How many steps an item may take.
+        /// How many steps an item may take, from 1 to 10^12.
         steps: u64,
     },
     /// A run on a made input.
     Make {
-        /// How many values the input puts.
+        /// How many values the input puts, from 1 to 10,000.
         count: u64,
-        /// How many steps an item may take.
+        /// How many steps an item may take, from 1 to 10^12.
         steps: u64,
     },
 }

@@ -24,8 +24,8 @@ of_alternative = seen_alternative (leaf result)
 abbrev pub of_inner : ActionNode → Lined Node
 of_inner = inner_nodes (leaf result)
 
--- The greatest line in a command or an alternative: its own, or one in its suites. Of the commands in a command alone it is 0
--- where there are none.
+-- The greatest line in a command or an alternative: its own, or that of a command or an alternative in it. Of the commands in a
+-- command alone it is 0 where there are none.
 abbrev pub inner_last : ActionNode-F ℕ ℕ ℕ → ℕ
 inner_last (ActionNode-F.If test suite) = highest suite
 inner_last (ActionNode-F.Select alternatives) = highest alternatives

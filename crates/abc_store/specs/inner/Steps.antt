@@ -58,7 +58,7 @@ pub record IsPlan (bounds : Bounds) (layout : Layout) (payload : List ℕ) (befo
   pub room : IsMadeUp (not (fits bounds layout (length payload))) before kept
   pub due : IsMadeUp (may_be_due bounds layout (length payload)) after later
 
--- the payloads of an image after a checkpoint, where one was made up
+-- the payloads of an image after the checkpoint that was made up; those before, where none was
 abbrev pub renewed_by : Option (List ℕ) → List (List ℕ) → List (List ℕ)
 renewed_by None payloads = payloads
 renewed_by (Some payload) payloads = payload ∷ []

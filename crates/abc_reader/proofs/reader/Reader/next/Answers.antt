@@ -16,8 +16,8 @@ returns-in-Some-clause-line g c told =
     let lines = c.self.inside.lines in
     let left = (g.H.Host.now c.args.host.now).left in
     let was : c.self.inside.ahead ≡ Some c.in-Some.line = search rules in
-    subst (λ r. TookLine r left (reading_of c.replace.new.dest lines) left (Some c.in-Some.line)) c.self.view_is
-    (took_ahead (reading_of c.self.inside.ahead lines) (reading_of c.replace.new.dest lines) left c.in-Some.line (ap some_line was) refl refl refl)
+    subst (λ r. TookLine r left (reading_of c.take.new.self lines) left (Some c.in-Some.line)) c.self.view_is
+    (took_ahead (reading_of c.self.inside.ahead lines) (reading_of c.take.new.self lines) left c.in-Some.line (ap some_line was) refl refl refl)
 
 pub returns-in-None-clause-line : goal.returns-in-None-clause-line
 returns-in-None-clause-line g c told =
@@ -27,8 +27,8 @@ returns-in-None-clause-line g c told =
     let ahead : some_line c.self.inside.ahead ≡ [] = search rules in
     let ends : nat_lt (c.next.new.self.taken + length new) c.next.new.self.bound ≡ nat_lt (lines.taken + length old) lines.bound =
     ap (λ n. nat_lt n c.next.new.self.bound) (c.next.ensures.total told) ∙ ap (λ b. nat_lt (lines.taken + length old) b) c.next.ensures.bound in
-    subst (λ r. IfOk c.next.result (TookLine r old (reading_of c.replace.new.dest c.next.new.self) new)) c.self.view_is
-    (if_took c.next.result _ _ _ (λ found line uses. took_read (reading_of c.self.inside.ahead lines) (reading_of c.replace.new.dest c.next.new.self) old new found ahead ends line uses) (c.next.ensures.line told) (c.next.ensures.uses told))
+    subst (λ r. IfOk c.next.result (TookLine r old (reading_of c.take.new.self c.next.new.self) new)) c.self.view_is
+    (if_took c.next.result _ _ _ (λ found line uses. took_read (reading_of c.self.inside.ahead lines) (reading_of c.take.new.self c.next.new.self) old new found ahead ends line uses) (c.next.ensures.line told) (c.next.ensures.uses told))
 
 pub returns-in-None-clause-asked : goal.returns-in-None-clause-asked
 returns-in-None-clause-asked g c told_said told =
@@ -46,23 +46,23 @@ returns-in-Some-clause-first g c input may =
     let was : c.self.inside.ahead ≡ Some c.in-Some.line = search rules in
     let raw : IsRaw c.in-Some.line = search rules in
     let used : length (some_line c.self.inside.ahead) ≤ used_of lines = search rules in
-    let none : some_line c.replace.new.dest ≡ [] = search rules in
-    subst (λ r. IsFirst (unread_in input r left) c.in-Some.line (unread_in input (reading_of c.replace.new.dest lines) left)) c.self.view_is
-    (first_ahead g.H.Host.tells_input input (reading_of c.self.inside.ahead lines) (reading_of c.replace.new.dest lines) left c.in-Some.line raw (ap some_line was) none refl refl refl
+    let none : some_line c.take.new.self ≡ [] = search rules in
+    subst (λ r. IsFirst (unread_in input r left) c.in-Some.line (unread_in input (reading_of c.take.new.self lines) left)) c.self.view_is
+    (first_ahead g.H.Host.tells_input input (reading_of c.self.inside.ahead lines) (reading_of c.take.new.self lines) left c.in-Some.line raw (ap some_line was) none refl refl refl
     (let long = ap length (ap some_line was) in let no_length = ap length none in omega (arith, used, long, no_length)))
 
 pub returns-in-None-clause-first : goal.returns-in-None-clause-first
 returns-in-None-clause-first g c input may =
     let lines = c.self.inside.lines in
     let old = reading_of c.self.inside.ahead lines in
-    let new = reading_of c.replace.new.dest c.next.new.self in
+    let new = reading_of c.take.new.self c.next.new.self in
     let left = (g.H.Host.now c.args.host.now).left in
     let left_new = (g.H.Host.now c.next.new.host).left in
     let told = told_by g.H.Host.tells_input input new left_new may in
     let ahead : some_line c.self.inside.ahead ≡ [] = search rules in
-    let none : some_line c.replace.new.dest ≡ [] = search rules in
+    let none : some_line c.take.new.self ≡ [] = search rules in
     let is_old : IsReader old = reader_none c.self.inside.ahead lines ahead (search rules) in
-    let is_new : IsReader new = reader_none c.replace.new.dest c.next.new.self none (search rules) in
+    let is_new : IsReader new = reader_none c.take.new.self c.next.new.self none (search rules) in
     subst (λ r. IfOk c.next.result (λ found. IfSome found (λ line. IsFirst (unread_in input r left) line (unread_in input new left_new)))) c.self.view_is
     (if_took c.next.result _ _ _
     (λ found first first_on. if_both found _ _ _ (λ line p q. first_read g.H.Host.tells_input old new left left_new input line ahead none is_old is_new c.next.ensures.total p q may) first first_on) (c.next.ensures.first told) (c.next.ensures.first_on told))
@@ -71,7 +71,7 @@ pub returns-in-None-clause-within : goal.returns-in-None-clause-within
 returns-in-None-clause-within g c input may is =
     let lines = c.self.inside.lines in
     let old = reading_of c.self.inside.ahead lines in
-    let new = reading_of c.replace.new.dest c.next.new.self in
+    let new = reading_of c.take.new.self c.next.new.self in
     let left = (g.H.Host.now c.args.host.now).left in
     let left_new = (g.H.Host.now c.next.new.host).left in
     let told = told_by g.H.Host.tells_input input new left_new may in
@@ -84,13 +84,13 @@ pub returns-in-None-clause-used_up : goal.returns-in-None-clause-used_up
 returns-in-None-clause-used_up g c told =
     let lines = c.self.inside.lines in
     let old = reading_of c.self.inside.ahead lines in
-    let new = reading_of c.replace.new.dest c.next.new.self in
+    let new = reading_of c.take.new.self c.next.new.self in
     let left = (g.H.Host.now c.args.host.now).left in
     let left_new = (g.H.Host.now c.next.new.host).left in
     let ahead : some_line c.self.inside.ahead ≡ [] = search rules in
-    let none : some_line c.replace.new.dest ≡ [] = search rules in
+    let none : some_line c.take.new.self ≡ [] = search rules in
     let is_old : IsReader old = reader_none c.self.inside.ahead lines ahead (search rules) in
-    let is_new : IsReader new = reader_none c.replace.new.dest c.next.new.self none (search rules) in
+    let is_new : IsReader new = reader_none c.take.new.self c.next.new.self none (search rules) in
     let used_old : bytes_used old ≡ used_of lines = let long = ap length ahead in omega (arith, long) in
     let used_new : bytes_used new ≡ used_of c.next.new.self = let long = ap length none in omega (arith, long) in
     let now = (λ (u v : ℕ). Consumes (old.pending ++ left) (new.pending ++ left_new) u v) in
